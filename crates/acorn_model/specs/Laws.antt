@@ -1,0 +1,53 @@
+-- What is shown of the cipher's definitions, for every key, nonce, data and text: the statements, to be read without their proofs.
+use mathlib.Core.Path.{_≡_}
+use mathlib.Core.Bool.{Bool, true, false}
+use mathlib.Core.List.{List}
+use mathlib.Core.Logic.{_↔_}
+use Prim.Native.Nat.{ℕ, _*_}
+use lib.ListN.{length}
+use Rattle.acorn_model.specs.Bits.{Bits, AreBytes, bitsIn, bytes}
+use Rattle.acorn_model.specs.Paper.{Encrypts, ciphertext, tag, decrypted, newTag, Opens}
+use Rattle.acorn_model.specs.Stretches.{tagLength, textOut, tagOf, zeros, through, start, dataEnd, textEnd, afterData, beforeFinal, dataPieces, textPieces, textPiecesOut, joined}
+use Rattle.acorn_model.specs.Message.{sealed, tagMatches, opened}
+
+module _ (key nonce «data» : List ℕ) where
+  -- by the paper n bytes of plaintext bits p are encrypted to c, with the tag T
+  abbrev pub ByPaper : ℕ → Bits → Bits → Bits → Type 0
+  ByPaper n p c T = Encrypts (bitsIn key) (bitsIn nonce) (bitsIn «data») (8 * length «data») (8 * n) p c T
+
+  -- The functions compute what the paper's relation says, and it allows nothing else.
+  pub record PaperComputed : Type 0 where
+    pub sealing : (text : List ℕ)
+        → ByPaper (length text) (bitsIn text) (bitsIn (ciphertext key nonce «data» text)) (bitsIn (tag key nonce «data» text))
+    pub sealing-only : (text : List ℕ) (c T : Bits) → ByPaper (length text) (bitsIn text) c T
+        → (bytes (length text) c ≡ ciphertext key nonce «data» text) × (bytes tagLength T ≡ tag key nonce «data» text)
+    pub opening : (cipher : List ℕ) → AreBytes cipher
+        → ByPaper (length cipher) (bitsIn (decrypted key nonce «data» cipher)) (bitsIn cipher) (bitsIn (newTag key nonce «data» cipher))
+    pub opening-only : (cipher : List ℕ) (p T : Bits) → AreBytes cipher → ByPaper (length cipher) p (bitsIn cipher) T
+        → (bytes (length cipher) p ≡ decrypted key nonce «data» cipher) × (bytes tagLength T ≡ newTag key nonce «data» cipher)
+
+  -- Opening undoes sealing, and opens exactly when the tag is the one.
+  pub record OpeningExact : Type 0 where
+    pub undone : (text : List ℕ) → AreBytes text → decrypted key nonce «data» (ciphertext key nonce «data» text) ≡ text
+    pub with-tag : (text t : List ℕ) → AreBytes text
+        → Opens key nonce «data» (ciphertext key nonce «data» text) t text ↔ (t ≡ tag key nonce «data» text)
+    pub exactly : (cipher t text : List ℕ) → AreBytes cipher → AreBytes text
+        → Opens key nonce «data» cipher t text ↔ ((cipher ≡ ciphertext key nonce «data» text) × (t ≡ tag key nonce «data» text))
+    pub whole : (sealedBytes text : List ℕ) → AreBytes sealedBytes → AreBytes text
+        → ((tagMatches key nonce «data» sealedBytes ≡ true) × (opened key nonce «data» sealedBytes ≡ text)) ↔ (sealedBytes ≡ sealed key nonce «data» text)
+
+  -- Document 01's stretches give the paper's ciphertext and tag.
+  pub record StretchesAgree : Type 0 where
+    pub sealing : (text : List ℕ)
+        → (textOut false text (afterData key nonce «data») ≡ ciphertext key nonce «data» text)
+        × (tagOf (beforeFinal false text (afterData key nonce «data»)) ≡ tag key nonce «data» text)
+    pub opening : (cipher : List ℕ)
+        → (textOut true cipher (afterData key nonce «data») ≡ decrypted key nonce «data» cipher)
+        × (tagOf (beforeFinal true cipher (afterData key nonce «data»)) ≡ newTag key nonce «data» cipher)
+    -- and so they do wherever data and text are cut into pieces
+    pub sealing-pieces : (ds ts : List (List ℕ)) → joined ds ≡ «data»
+        → (textPiecesOut false ts (through dataEnd (dataPieces ds (through (start key nonce) zeros))) ≡ ciphertext key nonce «data» (joined ts))
+        × (tagOf (through textEnd (textPieces false ts (through dataEnd (dataPieces ds (through (start key nonce) zeros))))) ≡ tag key nonce «data» (joined ts))
+    pub opening-pieces : (ds ts : List (List ℕ)) → joined ds ≡ «data»
+        → (textPiecesOut true ts (through dataEnd (dataPieces ds (through (start key nonce) zeros))) ≡ decrypted key nonce «data» (joined ts))
+        × (tagOf (through textEnd (textPieces true ts (through dataEnd (dataPieces ds (through (start key nonce) zeros))))) ≡ newTag key nonce «data» (joined ts))

@@ -1,0 +1,9 @@
+pub mod Bits
+pub mod Step
+pub mod Stretches
+pub mod Paper
+pub mod Calls
+pub mod Machine
+pub mod Lists
+pub mod Message
+pub mod Laws

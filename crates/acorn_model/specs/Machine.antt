@@ -1,0 +1,217 @@
+-- Document 01, "The one-step machine and the session" and "What sends a call back": what the machine holds, its calls, the numbers that send a
+-- call back, and what an accepted call does.
+use mathlib.Core.Bool.{Bool, true, false, not, _&&_, _||_}
+use mathlib.Core.List.{List, []}
+use Prim.Native.Nat.{ℕ, _+_}
+use lib.Dec.{eqb, ltb}
+use lib.ListN.{length}
+use Rattle.acorn_model.specs.declared.Kind.{Kind}
+use Rattle.acorn_model.specs.declared.Kind.the-variants.{Sealing, Checking}
+use Rattle.acorn_model.specs.declared.Phase.{Phase}
+use Rattle.acorn_model.specs.declared.Phase.the-variants.{Fresh, Data, Text, Closed}
+use Rattle.acorn_model.specs.Bits.{Bits, _if_else_}
+use Rattle.acorn_model.specs.Stretches.{Stretch, through, zeros, start, dataPiece, dataEnd, textPiece, textEnd, final, textOut, tagOf, tagLength}
+use Rattle.acorn_model.specs.Calls.{Reply, refused, did, Work, accepted, unlessRefused, over, sameBytes, Outcome, refusedWith, entries, handedOn}
+
+-- ## What it holds
+
+-- the bytes of data and of text taken, and the steps run since it was fresh
+pub record Counts : Type 0 where
+  pub dataBytes : ℕ
+  pub textBytes : ℕ
+  pub steps : ℕ
+
+pub record Machine : Type 0 where
+  pub kind : Kind
+  pub phase : Phase
+  pub state : Bits
+  pub counts : Counts
+
+-- a machine that no call has reached
+unfoldable pub fresh : Kind → Machine
+fresh kind = record { kind = kind; phase = Fresh; state = zeros; counts = record { dataBytes = 0; textBytes = 0; steps = 0 } }
+
+-- ## Calls
+
+-- A call with its arguments and, where it writes, its output as it stands. Text and close are there for each kind.
+pub data Call : Type 0 where
+  begin : (key nonce : List ℕ) → Call
+  dataCall : (piece : List ℕ) → Call
+  sealText : (piece out : List ℕ) → Call
+  checkText : (piece : List ℕ) → Call
+  sealClose : (out : List ℕ) → Call
+  checkClose : (tag : List ℕ) → Call
+
+-- the output that a call is lent
+unfoldable pub outputOf : Call → List ℕ
+outputOf (begin key nonce) = []
+outputOf (dataCall piece) = []
+outputOf (sealText piece out) = out
+outputOf (checkText piece) = []
+outputOf (sealClose out) = out
+outputOf (checkClose tag) = []
+
+-- ## What sends a call back
+
+abbrev pub isSealing : Kind → Bool
+isSealing Sealing = true
+isSealing Checking = false
+
+abbrev pub isChecking : Kind → Bool
+isChecking Sealing = false
+isChecking Checking = true
+
+abbrev pub isFresh : Phase → Bool
+isFresh Fresh = true
+isFresh Data = false
+isFresh Text = false
+isFresh Closed = false
+
+abbrev pub isData : Phase → Bool
+isData Fresh = false
+isData Data = true
+isData Text = false
+isData Closed = false
+
+abbrev pub isText : Phase → Bool
+isText Fresh = false
+isText Data = false
+isText Text = true
+isText Closed = false
+
+-- 1: the phase does not allow the call, or it is meant for the other kind
+unfoldable pub phaseAllows : Kind → Phase → Call → Bool
+phaseAllows kind phase (begin key nonce) = isFresh phase
+phaseAllows kind phase (dataCall piece) = isData phase
+phaseAllows kind phase (sealText piece out) = isSealing kind && (isData phase || isText phase)
+phaseAllows kind phase (checkText piece) = isChecking kind && (isData phase || isText phase)
+phaseAllows kind phase (sealClose out) = isSealing kind && (isData phase || isText phase)
+phaseAllows kind phase (checkClose tag) = isChecking kind && (isData phase || isText phase)
+
+-- the bytes of a key and of a nonce
+abbrev pub keyLength : ℕ
+keyLength = 16
+
+-- 2: key, nonce or tag has its size
+unfoldable pub sizesRight : Call → Bool
+sizesRight (begin key nonce) = eqb (length key) keyLength && eqb (length nonce) keyLength
+sizesRight (dataCall piece) = true
+sizesRight (sealText piece out) = true
+sizesRight (checkText piece) = true
+sizesRight (sealClose out) = true
+sizesRight (checkClose tag) = eqb (length tag) tagLength
+
+-- 5: the most bytes of data, and the most of text, each by itself
+abbrev pub byteLimit : ℕ
+byteLimit = 65536
+
+unfoldable pub overLimit : Counts → Call → Bool
+overLimit counts (begin key nonce) = false
+overLimit counts (dataCall piece) = ltb byteLimit (counts .dataBytes + length piece)
+overLimit counts (sealText piece out) = ltb byteLimit (counts .textBytes + length piece)
+overLimit counts (checkText piece) = ltb byteLimit (counts .textBytes + length piece)
+overLimit counts (sealClose out) = false
+overLimit counts (checkClose tag) = false
+
+-- 6: the output is shorter than what is to be written
+unfoldable pub outputShort : Call → Bool
+outputShort (begin key nonce) = false
+outputShort (dataCall piece) = false
+outputShort (sealText piece out) = ltb (length out) (length piece)
+outputShort (checkText piece) = false
+outputShort (sealClose out) = ltb (length out) tagLength
+outputShort (checkClose tag) = false
+
+-- the smallest number that applies, of those that stop a call before it runs a step (7 is known at the end of a checking close)
+unfoldable pub refusal : Machine → Call → ℕ
+refusal m call =
+    1 if not (phaseAllows (m .kind) (m .phase) call) else
+    2 if not (sizesRight call) else
+    5 if overLimit (m .counts) call else
+    6 if outputShort call else
+    accepted
+
+-- ## What an accepted call does
+
+-- the steps of a stretch are run, and counted
+unfoldable pub runThrough : Stretch → Machine → Machine
+runThrough stretch m =
+    record {
+      kind = m .kind;
+      phase = m .phase;
+      state = through stretch (m .state);
+      counts = record { dataBytes = m .counts .dataBytes; textBytes = m .counts .textBytes; steps = m .counts .steps + stretch .steps };
+    }
+
+unfoldable pub enter : Phase → Machine → Machine
+enter phase m = record { kind = m .kind; phase = phase; state = m .state; counts = m .counts }
+
+unfoldable pub cleared : Machine → Machine
+cleared m = record { kind = m .kind; phase = m .phase; state = zeros; counts = m .counts }
+
+unfoldable pub countData : ℕ → Machine → Machine
+countData n m =
+    record {
+      kind = m .kind;
+      phase = m .phase;
+      state = m .state;
+      counts = record { dataBytes = m .counts .dataBytes + n; textBytes = m .counts .textBytes; steps = m .counts .steps };
+    }
+
+unfoldable pub countText : ℕ → Machine → Machine
+countText n m =
+    record {
+      kind = m .kind;
+      phase = m .phase;
+      state = m .state;
+      counts = record { dataBytes = m .counts .dataBytes; textBytes = m .counts .textBytes + n; steps = m .counts .steps };
+    }
+
+-- begin: start runs, from all zeros
+unfoldable pub begun : List ℕ → List ℕ → Machine → Machine
+begun key nonce m = enter Data (runThrough (start key nonce) (cleared m))
+
+-- data: the piece's bits run
+unfoldable pub dataTaken : List ℕ → Machine → Machine
+dataTaken piece m = countData (length piece) (runThrough (dataPiece piece) m)
+
+-- text and close first run the data end, where the machine is still in data
+unfoldable pub dataEnded : Machine → Machine
+dataEnded m = runThrough dataEnd m if isData (m .phase) else m
+
+-- text: the piece's bits run; a checking machine is given ciphertext
+unfoldable pub textTaken : List ℕ → Machine → Machine
+textTaken piece m = enter Text (countText (length piece) (runThrough (textPiece (isChecking (m .kind)) piece) (dataEnded m)))
+
+-- close: text end and final run. What the state is after a close is left to choice, and nothing reads it: it holds zeros.
+unfoldable pub textEnded : Machine → Machine
+textEnded m = runThrough textEnd (dataEnded m)
+
+unfoldable pub closed : Machine → Machine
+closed m = enter Closed (cleared (runThrough final (textEnded m)))
+
+-- the answer to an accepted call that wrote so many bytes
+unfoldable pub answered : ℕ → Machine → Reply Work
+answered n m = did (record { bytes = n; steps = m .counts .steps })
+
+-- an accepted call that led to the machine m and wrote these bytes
+unfoldable pub wrote : List ℕ → Machine → List ℕ → Outcome Machine Work
+wrote written m out = record { next = m; answer = answered (length written) m; out = over written out }
+
+-- good, or 7
+unfoldable pub verdict : Bool → Machine → Reply Work
+verdict true m = answered 0 m
+verdict false m = refused 7
+
+unfoldable pub work : Machine → Call → Outcome Machine Work
+work m (begin key nonce) = wrote [] (begun key nonce m) []
+work m (dataCall piece) = wrote [] (dataTaken piece m) []
+work m (sealText piece out) = wrote (textOut false piece (dataEnded m .state)) (textTaken piece m) out
+work m (checkText piece) = wrote [] (textTaken piece m) []
+work m (sealClose out) = wrote (tagOf (textEnded m .state)) (closed m) out
+work m (checkClose tag) = record { next = closed m; answer = verdict (sameBytes tag (tagOf (textEnded m .state))) (closed m); out = [] }
+
+-- ## One call, and a list of calls
+
+unfoldable pub call : Machine → Call → Outcome Machine Work
+call m c = unlessRefused (refusal m c) (work m c) (refusedWith (refusal m c) m (outputOf c))

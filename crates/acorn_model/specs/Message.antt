@@ -1,0 +1,69 @@
+-- Whole sealing and whole opening (document 01, "The one-step machine and the session", its last paragraph), by the paper's ciphertext and tag.
+use mathlib.Core.Bool.{Bool, not, _&&_, _||_}
+use mathlib.Core.List.{List, _++_}
+use Prim.Native.Nat.{ℕ, _+_, _-_}
+use lib.Dec.{eqb, ltb}
+use lib.ListN.{length, take, drop}
+use Rattle.acorn_model.specs.Bits.{_if_else_}
+use Rattle.acorn_model.specs.Stretches.{tagLength}
+use Rattle.acorn_model.specs.Paper.{ciphertext, tag, decrypted, newTag}
+use Rattle.acorn_model.specs.Calls.{Reply, refused, did, accepted, unlessRefused, over, sameBytes}
+use Rattle.acorn_model.specs.Machine.{keyLength, byteLimit}
+
+-- What a call on a whole message comes to: its answer, and its output after it.
+pub record Result (A : Type 0) : Type 0 where
+  pub answer : Reply A
+  pub out : List ℕ
+
+-- by the number that applies: these bytes are written, with this answer; or nothing is, and the number is the answer
+unfoldable pub resultOf : {A : Type 0} → ℕ → A → List ℕ → List ℕ → Result A
+resultOf n answer written out = unlessRefused n (record { answer = did answer; out = over written out }) (record { answer = refused n; out = out })
+
+-- of sealed bytes all are ciphertext but the tag's at the end
+abbrev pub cipherPart : List ℕ → List ℕ
+cipherPart sealedBytes = take (length sealedBytes - tagLength) sealedBytes
+
+abbrev pub tagPart : List ℕ → List ℕ
+tagPart sealedBytes = drop (length sealedBytes - tagLength) sealedBytes
+
+module _ (key nonce «data» : List ℕ) where
+  -- 2: a key or nonce of another size; 5: data over the limit
+  abbrev pub sizesWrong : Bool
+  sizesWrong = not (eqb (length key) keyLength && eqb (length nonce) keyLength)
+
+  abbrev pub dataOver : Bool
+  dataOver = ltb byteLimit (length «data»)
+
+  -- ## Sealing: ciphertext, then tag
+
+  unfoldable pub sealed : List ℕ → List ℕ
+  sealed text = ciphertext key nonce «data» text ++ tag key nonce «data» text
+
+  unfoldable pub sealRefusal : List ℕ → List ℕ → ℕ
+  sealRefusal text out =
+      2 if sizesWrong else
+      5 if dataOver || ltb byteLimit (length text) else
+      6 if ltb (length out) (length text + tagLength) else
+      accepted
+
+  unfoldable pub sealMessage : List ℕ → List ℕ → Result ℕ
+  sealMessage text out = resultOf (sealRefusal text out) (length (sealed text)) (sealed text) out
+
+  -- ## Opening
+
+  unfoldable pub tagMatches : List ℕ → Bool
+  tagMatches sealedBytes = sameBytes (tagPart sealedBytes) (newTag key nonce «data» (cipherPart sealedBytes))
+
+  unfoldable pub opened : List ℕ → List ℕ
+  opened sealedBytes = decrypted key nonce «data» (cipherPart sealedBytes)
+
+  unfoldable pub openRefusal : List ℕ → List ℕ → ℕ
+  openRefusal sealedBytes out =
+      2 if sizesWrong || ltb (length sealedBytes) tagLength else
+      5 if dataOver || ltb byteLimit (length sealedBytes - tagLength) else
+      6 if ltb (length out) (length sealedBytes - tagLength) else
+      7 if not (tagMatches sealedBytes) else
+      accepted
+
+  unfoldable pub openMessage : List ℕ → List ℕ → Result ℕ
+  openMessage sealedBytes out = resultOf (openRefusal sealedBytes out) (length (opened sealedBytes)) (opened sealedBytes) out

@@ -1,0 +1,24 @@
+// The words that code and specification share: the kinds and phases of a session, and the answers of calls.
+pub enum Kind {
+    Sealing,
+    Checking,
+}
+
+pub enum Phase {
+    Fresh,
+    Data,
+    Text,
+    Closed,
+}
+
+// The answer of a session's or a writer's call: a refusal number, or the bytes that the call wrote and the steps run since fresh.
+pub enum Answer {
+    Refused(u8),
+    Done(usize, u64),
+}
+
+// The answer of whole sealing and opening, and of packing: a refusal number, or the number of bytes written.
+pub enum Written {
+    Refused(u8),
+    Done(usize),
+}
