@@ -1,0 +1,7 @@
+pub mod Format
+pub mod Ticket
+pub mod Tape
+pub mod Writer
+pub mod Reader
+pub mod Listing
+pub mod Laws

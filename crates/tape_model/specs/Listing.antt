@@ -1,0 +1,88 @@
+-- Document 01, "Ticket, head, tape", on the listing: the text that the listing program prints for a key and a tape, as ASCII bytes.
+use mathlib.Core.Bool.{Bool}
+use mathlib.Core.List.{List, [], _∷_, _++_}
+use Prim.Native.Nat.{ℕ, zero, suc, _+_, _/_, _%_}
+use lib.Dec.{ltb}
+use lib.ListN.{length, take, drop, replicate}
+use Rattle.acorn_model.specs.Bits.{_if_else_}
+use Rattle.acorn_model.specs.Calls.{Reply, refused, did}
+use Rattle.acorn_model.specs.Machine.{keyLength}
+use Rattle.tape_model.specs.declared.Ticket.{Ticket}
+use Rattle.tape_model.specs.declared.Head.{Head}
+use Rattle.tape_model.specs.Ticket.{ticketLength, net, unpackHead, headLength}
+use Rattle.tape_model.specs.Tape.{totalNet, unpackTickets, ticketsIn, headBytes, ticketCount, plainBytes, openRefusal}
+
+-- ## Words and numbers
+
+-- 'TAPE', 'TOTAL', 'REFUSED'
+abbrev pub wordTape : List ℕ
+wordTape = 0x54 ∷ 0x41 ∷ 0x50 ∷ 0x45 ∷ []
+
+abbrev pub wordTotal : List ℕ
+wordTotal = 0x54 ∷ 0x4f ∷ 0x54 ∷ 0x41 ∷ 0x4c ∷ []
+
+abbrev pub wordRefused : List ℕ
+wordRefused = 0x52 ∷ 0x45 ∷ 0x46 ∷ 0x55 ∷ 0x53 ∷ 0x45 ∷ 0x44 ∷ []
+
+abbrev pub space : List ℕ
+space = 0x20 ∷ []
+
+abbrev pub lineEnd : List ℕ
+lineEnd = 0x0a ∷ []
+
+-- a number below 10 ^ k in decimal, without leading zeros
+unfoldable pub decimalBelow : ℕ → ℕ → List ℕ
+decimalBelow zero n = []
+decimalBelow (suc k) n = ((0x30 + n) ∷ []) if ltb n 10 else (decimalBelow k (n / 10) ++ ((0x30 + n % 10) ∷ []))
+
+-- every number that is listed is below 10 ^ 20
+abbrev pub decimal : ℕ → List ℕ
+decimal n = decimalBelow 20 n
+
+-- numbers, a space before each
+unfoldable pub numbers : List ℕ → List ℕ
+numbers [] = []
+numbers (n ∷ ns) = space ++ decimal n ++ numbers ns
+
+-- ## Lines
+
+unfoldable pub headLine : Head → List ℕ
+headLine h = wordTape ++ numbers (h .device ∷ h .shift ∷ h .sheet ∷ []) ++ lineEnd
+
+-- position, counted from 1, truck, shovel, tip point, grade, loaded, tipped, net
+unfoldable pub ticketLine : ℕ → Ticket → List ℕ
+ticketLine position t =
+    decimal position
+    ++ numbers (t .truck ∷ t .shovel ∷ t .tip ∷ t .grade ∷ t .loaded ∷ t .tipped ∷ net t ∷ [])
+    ++ lineEnd
+
+unfoldable pub ticketLines : ℕ → List Ticket → List ℕ
+ticketLines position [] = []
+ticketLines position (t ∷ ts) = ticketLine position t ++ ticketLines (position + 1) ts
+
+unfoldable pub totalLine : List Ticket → List ℕ
+totalLine ts = wordTotal ++ numbers (length ts ∷ totalNet ts ∷ []) ++ lineEnd
+
+unfoldable pub refusedLine : ℕ → List ℕ
+refusedLine n = wordRefused ++ numbers (n ∷ []) ++ lineEnd
+
+-- ## The listing
+
+unfoldable pub listed : Reply Head → List Ticket → List ℕ
+listed (refused n) ts = refusedLine n
+listed (did h) ts = headLine h ++ ticketLines 1 ts ++ totalLine ts
+
+-- by the number that refuses to open the tape, into room enough for its plain bytes: the listing, or the refusal alone
+unfoldable pub listingUnless : ℕ → List ℕ → List ℕ → List ℕ
+listingUnless zero key tape = listed (unpackHead (headBytes tape)) (ticketsIn (unpackTickets (ticketCount tape) (plainBytes key tape)))
+listingUnless (suc n) key tape = refusedLine (suc n)
+
+abbrev pub room : List ℕ → List ℕ
+room tape = replicate (length tape) 0
+
+unfoldable pub listing : List ℕ → List ℕ → List ℕ
+listing key tape = listingUnless (openRefusal key tape (room tape)) key tape
+
+-- what is printed for the bytes on standard input: the key's 16, or fewer where it is cut short, and then a tape
+unfoldable pub printed : List ℕ → List ℕ
+printed input = listing (take keyLength input) (drop keyLength input)

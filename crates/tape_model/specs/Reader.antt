@@ -1,0 +1,52 @@
+-- Document 01, "Ticket, head, tape", on the reader: it hands out the tickets of opened bytes in turn.
+use mathlib.Core.Bool.{Bool, not}
+use mathlib.Core.List.{List}
+use Prim.Native.Nat.{ℕ, _+_, _*_, _/_}
+use lib.Dec.{leb}
+use lib.ListN.{length, take, drop}
+use Rattle.acorn_model.specs.Bits.{_if_else_}
+use Rattle.acorn_model.specs.Calls.{Reply, refused, did}
+use Rattle.tape_model.specs.declared.Ticket.{Ticket}
+use Rattle.tape_model.specs.declared.NextTicket.{NextTicket}
+use Rattle.tape_model.specs.declared.NextTicket.the-variants.{Refused, Done, End}
+use Rattle.tape_model.specs.Ticket.{ticketLength, unpackTicket}
+use Rattle.tape_model.specs.Tape.{ticketsLength}
+
+-- what a reader hands out
+pub data Reading : Type 0 where
+  ticket : Ticket → Reading
+  atEnd : Reading
+
+-- the bytes that it is over, and how many tickets it has handed out
+pub record Reader : Type 0 where
+  pub string : List ℕ
+  pub position : ℕ
+
+-- a reader may be made over any bytes
+unfoldable pub readerOver : List ℕ → Reader
+readerOver string = record { string = string; position = 0 }
+
+pub record ReadOutcome : Type 0 where
+  pub next : Reader
+  pub answer : Reply Reading
+
+abbrev pub stays : Reader → Reply Reading → ReadOutcome
+stays r answer = record { next = r; answer = answer }
+
+-- a ticket that does not unpack ends the reading with its number, and the reader stays before it
+unfoldable pub handedOut : Reply Ticket → Reader → ReadOutcome
+handedOut (refused n) r = stays r (refused n)
+handedOut (did t) r = record { next = record { string = r .string; position = r .position + 1 }; answer = did (ticket t) }
+
+-- the next ticket: 2 where the bytes are not 13n, with n at most 5,000; 8 where a ticket does not unpack
+unfoldable pub readNext : Reader → ReadOutcome
+readNext r =
+    stays r (refused 2) if not (ticketsLength (length (r .string))) else
+    stays r (did atEnd) if leb (length (r .string) / ticketLength) (r .position) else
+    handedOut (unpackTicket (take ticketLength (drop (ticketLength * r .position) (r .string)))) r
+
+-- the number and the values of each case of the answer in code
+unfoldable pub readingIn : NextTicket → Reply Reading
+readingIn (Refused n) = refused n
+readingIn (Done t) = did (ticket t)
+readingIn End = did atEnd

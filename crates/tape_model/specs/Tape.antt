@@ -1,0 +1,109 @@
+-- Document 01, "Ticket, head, tape", on tapes: what a tape is, and what opening one gives.
+use mathlib.Core.Bool.{Bool, true, false, not, _&&_}
+use mathlib.Core.List.{List, [], _∷_, _++_}
+use Prim.Native.Nat.{ℕ, zero, suc, _+_, _-_, _*_, _/_, _%_}
+use lib.Dec.{leb, ltb, eqb}
+use lib.ListN.{length, take, drop, replicate}
+use Rattle.acorn_model.specs.Bits.{_if_else_}
+use Rattle.acorn_model.specs.Stretches.{tagLength}
+use Rattle.acorn_model.specs.Calls.{Reply, refused, did, accepted}
+use Rattle.acorn_model.specs.Machine.{keyLength}
+use Rattle.acorn_model.specs.Message.{Result, resultOf, sealed, tagMatches, opened}
+use Rattle.tape_model.specs.declared.Ticket.{Ticket}
+use Rattle.tape_model.specs.declared.Head.{Head}
+use Rattle.tape_model.specs.declared.OpenedTape.{OpenedTape}
+use Rattle.tape_model.specs.declared.OpenedTape.the-variants.{Refused, Done}
+use Rattle.tape_model.specs.Ticket.{ticketLength, ticketRule, net, packTicket, unpackTicket, headLength, headRule, packHead, unpackHead}
+
+-- ## What a tape is
+
+-- the most tickets on a tape
+abbrev pub ticketLimit : ℕ
+ticketLimit = 5000
+
+-- the nonce is the head's bytes and 7 zero bytes; the data is the head's bytes
+abbrev pub nonceOf : List ℕ → List ℕ
+nonceOf headBytes = headBytes ++ replicate 7 0
+
+-- the plain bytes of tickets
+unfoldable pub packTickets : List Ticket → List ℕ
+packTickets [] = []
+packTickets (t ∷ ts) = packTicket t ++ packTickets ts
+
+-- head, ciphertext of the packed tickets, tag
+unfoldable pub tapeOf : List ℕ → Head → List Ticket → List ℕ
+tapeOf key head tickets = packHead head ++ sealed key (nonceOf (packHead head)) (packHead head) (packTickets tickets)
+
+-- ## Opened bytes
+
+-- 13n bytes, with n at most 5,000
+unfoldable pub ticketsLength : ℕ → Bool
+ticketsLength n = eqb (n % ticketLength) 0 && leb (n / ticketLength) ticketLimit
+
+-- a ticket before others; the first refusal is the answer
+abbrev pub before : Reply Ticket → Reply (List Ticket) → Reply (List Ticket)
+before (refused n) others = refused n
+before (did t) (refused n) = refused n
+before (did t) (did ts) = did (t ∷ ts)
+
+-- the n tickets in plain bytes
+unfoldable pub unpackTickets : ℕ → List ℕ → Reply (List Ticket)
+unpackTickets zero string = did []
+unpackTickets (suc n) string = before (unpackTicket (take ticketLength string)) (unpackTickets n (drop ticketLength string))
+
+abbrev pub isRefused : {A : Type 0} → Reply A → Bool
+isRefused (refused n) = true
+isRefused (did a) = false
+
+abbrev pub ticketsIn : Reply (List Ticket) → List Ticket
+ticketsIn (refused n) = []
+ticketsIn (did ts) = ts
+
+unfoldable pub totalNet : List Ticket → ℕ
+totalNet [] = 0
+totalNet (t ∷ ts) = net t + totalNet ts
+
+-- ## Opening
+
+-- what opening a tape answers
+pub record Totals : Type 0 where
+  pub tickets : ℕ
+  pub net : ℕ
+
+-- 25 + 13n bytes, with n at most 5,000
+abbrev pub frameLength : ℕ
+frameLength = headLength + tagLength
+
+unfoldable pub tapeLength : ℕ → Bool
+tapeLength n = leb frameLength n && ticketsLength (n - frameLength)
+
+abbrev pub headBytes : List ℕ → List ℕ
+headBytes tape = take headLength tape
+
+abbrev pub sealedBytes : List ℕ → List ℕ
+sealedBytes tape = drop headLength tape
+
+abbrev pub ticketCount : List ℕ → ℕ
+ticketCount tape = (length tape - frameLength) / ticketLength
+
+module _ (key tape : List ℕ) where
+  unfoldable pub plainBytes : List ℕ
+  plainBytes = opened key (nonceOf (headBytes tape)) (headBytes tape) (sealedBytes tape)
+
+  unfoldable pub openRefusal : List ℕ → ℕ
+  openRefusal out =
+      2 if not (eqb (length key) keyLength && tapeLength (length tape)) else
+      3 if isRefused (unpackHead (headBytes tape)) else
+      6 if ltb (length out) (ticketLength * ticketCount tape) else
+      7 if not (tagMatches key (nonceOf (headBytes tape)) (headBytes tape) (sealedBytes tape)) else
+      8 if isRefused (unpackTickets (ticketCount tape) plainBytes) else
+      accepted
+
+  -- the plain bytes are written, and the number of tickets and their total net answered
+  unfoldable pub openTape : List ℕ → Result Totals
+  openTape out = resultOf (openRefusal out) (record { tickets = ticketCount tape; net = totalNet (ticketsIn (unpackTickets (ticketCount tape) plainBytes)) }) plainBytes out
+
+-- the number and the values of each case of the answer in code
+unfoldable pub totalsIn : OpenedTape → Reply Totals
+totalsIn (Refused n) = refused n
+totalsIn (Done tickets net) = did (record { tickets = tickets; net = net })

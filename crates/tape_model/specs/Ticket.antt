@@ -1,0 +1,127 @@
+-- Document 01, "Ticket, head, tape", on tickets and heads: their formats and rules, how they are packed, and what bytes unpack to.
+use mathlib.Core.Bool.{Bool, true, false, not, _&&_}
+use mathlib.Core.List.{List, [], _∷_, _++_}
+use Prim.Native.Nat.{ℕ, _-_}
+use lib.Dec.{leb, ltb, eqb}
+use lib.ListN.{length, getD, replicate}
+use Rattle.acorn_model.specs.Bits.{_if_else_}
+use Rattle.acorn_model.specs.Calls.{Reply, refused, did, accepted}
+use Rattle.acorn_model.specs.Message.{Result, resultOf}
+use Rattle.tape_model.specs.declared.Ticket.{Ticket}
+use Rattle.tape_model.specs.declared.Head.{Head}
+use Rattle.tape_model.specs.declared.UnpackedTicket.{UnpackedTicket}
+use Rattle.tape_model.specs.declared.UnpackedTicket.the-variants.{Refused as NoTicket, Done as TicketDone}
+use Rattle.tape_model.specs.declared.UnpackedHead.{UnpackedHead}
+use Rattle.tape_model.specs.declared.UnpackedHead.the-variants.{Refused as NoHead, Done as HeadDone}
+use Rattle.tape_model.specs.Format.{Field, _bits_to_, widths, inRanges, pack, unpack}
+
+-- ## Tickets
+
+-- form, truck, shovel, tip point, grade, loaded, tipped, gross, tare, spare
+abbrev pub form1 : List Field
+form1 =
+    4 bits 1 to 1
+    ∷ 10 bits 1 to 1023
+    ∷ 6 bits 1 to 63
+    ∷ 6 bits 1 to 63
+    ∷ 4 bits 0 to 9
+    ∷ 16 bits 0 to 43199
+    ∷ 16 bits 0 to 43199
+    ∷ 20 bits 0 to 1048575
+    ∷ 20 bits 0 to 1048575
+    ∷ 2 bits 0 to 0
+    ∷ []
+
+-- the bytes of a packed ticket
+abbrev pub ticketLength : ℕ
+ticketLength = 13
+
+-- a ticket's values in the order of its form, the spare bits zeros; and the ticket of such values
+abbrev pub ticketValues : Ticket → List ℕ
+ticketValues t = t .form ∷ t .truck ∷ t .shovel ∷ t .tip ∷ t .grade ∷ t .loaded ∷ t .tipped ∷ t .gross ∷ t .tare ∷ 0 ∷ []
+
+abbrev pub ticketOf : List ℕ → Ticket
+ticketOf vs =
+    record {
+      form = getD vs 0 0;
+      truck = getD vs 1 0;
+      shovel = getD vs 2 0;
+      tip = getD vs 3 0;
+      grade = getD vs 4 0;
+      loaded = getD vs 5 0;
+      tipped = getD vs 6 0;
+      gross = getD vs 7 0;
+      tare = getD vs 8 0;
+    }
+
+-- loaded at most tipped, and tare below gross
+unfoldable pub ordered : Ticket → Bool
+ordered t = leb (t .loaded) (t .tipped) && ltb (t .tare) (t .gross)
+
+-- the ticket rule: what a valid ticket is
+unfoldable pub ticketRule : Ticket → Bool
+ticketRule t = inRanges form1 (ticketValues t) && ordered t
+
+unfoldable pub net : Ticket → ℕ
+net t = t .gross - t .tare
+
+unfoldable pub packTicket : Ticket → List ℕ
+packTicket t = pack (widths form1) ticketLength (ticketValues t)
+
+-- the ticket in packed bytes: 2 for another size, 8 where the values (the spare bits among them) break the rule
+unfoldable pub unpackTicket : List ℕ → Reply Ticket
+unpackTicket string =
+    refused 2 if not (eqb (length string) ticketLength) else
+    refused 8 if not (inRanges form1 (unpack (widths form1) string) && ordered (ticketOf (unpack (widths form1) string))) else
+    did (ticketOf (unpack (widths form1) string))
+
+-- a ticket packed into lent bytes: 4, then 6
+unfoldable pub packTicketInto : Ticket → List ℕ → Result ℕ
+packTicketInto t out = resultOf (4 if not (ticketRule t) else 6 if ltb (length out) ticketLength else accepted) ticketLength (packTicket t) out
+
+-- ## Heads
+
+-- device, shift, sheet
+abbrev pub headFormat : List Field
+headFormat =
+    32 bits 1 to 4294967295
+    ∷ 20 bits 1 to 1000000
+    ∷ 20 bits 1 to 1000000
+    ∷ []
+
+-- the bytes of a packed head
+abbrev pub headLength : ℕ
+headLength = 9
+
+abbrev pub headValues : Head → List ℕ
+headValues h = h .device ∷ h .shift ∷ h .sheet ∷ []
+
+abbrev pub headOf : List ℕ → Head
+headOf vs = record { device = getD vs 0 0; shift = getD vs 1 0; sheet = getD vs 2 0 }
+
+unfoldable pub headRule : Head → Bool
+headRule h = inRanges headFormat (headValues h)
+
+unfoldable pub packHead : Head → List ℕ
+packHead h = pack (widths headFormat) headLength (headValues h)
+
+-- the head in packed bytes: 2 for another size, 3 for a field outside its range
+unfoldable pub unpackHead : List ℕ → Reply Head
+unpackHead string =
+    refused 2 if not (eqb (length string) headLength) else
+    refused 3 if not (inRanges headFormat (unpack (widths headFormat) string)) else
+    did (headOf (unpack (widths headFormat) string))
+
+-- a head packed into lent bytes: 3, then 6
+unfoldable pub packHeadInto : Head → List ℕ → Result ℕ
+packHeadInto h out = resultOf (3 if not (headRule h) else 6 if ltb (length out) headLength else accepted) headLength (packHead h) out
+
+-- ## The number and the values of each case of the answers in code
+
+unfoldable pub ticketIn : UnpackedTicket → Reply Ticket
+ticketIn (NoTicket n) = refused n
+ticketIn (TicketDone t) = did t
+
+unfoldable pub headIn : UnpackedHead → Reply Head
+headIn (NoHead n) = refused n
+headIn (HeadDone h) = did h

@@ -1,0 +1,49 @@
+// Tickets and heads by value, the phases of a tape's writer, and the answers of calls on tickets and tapes.
+pub struct Ticket {
+    pub form: u8,
+    pub truck: u16,
+    pub shovel: u8,
+    pub tip: u8,
+    pub grade: u8,
+    pub loaded: u32,
+    pub tipped: u32,
+    pub gross: u32,
+    pub tare: u32,
+}
+
+pub struct Head {
+    pub device: u32,
+    pub shift: u32,
+    pub sheet: u32,
+}
+
+pub enum WriterPhase {
+    Fresh,
+    Open,
+    Closed,
+}
+
+// The answer of unpacking a ticket: a refusal number, or the ticket.
+pub enum UnpackedTicket {
+    Refused(u8),
+    Done(Ticket),
+}
+
+// The answer of unpacking a head: a refusal number, or the head.
+pub enum UnpackedHead {
+    Refused(u8),
+    Done(Head),
+}
+
+// The answer of opening a tape: a refusal number, or the number of tickets and their total net.
+pub enum OpenedTape {
+    Refused(u8),
+    Done(usize, u64),
+}
+
+// The answer of a reader: a refusal number, the next ticket, or that it is at the end.
+pub enum NextTicket {
+    Refused(u8),
+    Done(Ticket),
+    End,
+}
