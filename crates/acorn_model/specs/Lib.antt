@@ -1,5 +1,6 @@
 pub mod Bits
 pub mod Step
+pub mod StepCases
 pub mod Stretches
 pub mod Paper
 pub mod Calls

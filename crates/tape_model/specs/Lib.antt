@@ -5,3 +5,4 @@ pub mod Writer
 pub mod Reader
 pub mod Listing
 pub mod Laws
+pub mod Cases
