@@ -9,7 +9,6 @@ use Rattle.acorn_model.specs.Bits.{Bits}
 use Rattle.acorn_model.specs.Step.{keystreamBit, step}
 
 infix 80 _is_
-
 -- a control bit that a case gives; or one that it leaves open, and then it holds for both values
 pub data Control : Type 0 where
   set : Bool → Control

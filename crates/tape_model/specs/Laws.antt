@@ -2,7 +2,7 @@
 use mathlib.Core.Path.{_≡_}
 use mathlib.Core.Bool.{Bool, true}
 use mathlib.Core.List.{List, [], _∷_}
-use Prim.Native.Nat.{ℕ, _≤_, _*_}
+use Prim.Native.Nat.{ℕ, _+_, _-_, _*_, _^_, _≤_, _<_}
 use lib.ListN.{length}
 use Rattle.acorn_model.specs.Bits.{AreBytes}
 use Rattle.acorn_model.specs.Calls.{Reply, did, over}
@@ -12,6 +12,8 @@ use Rattle.tape_model.specs.declared.Ticket.{Ticket}
 use Rattle.tape_model.specs.declared.Head.{Head}
 use Rattle.tape_model.specs.Format.{totalWidth, join, cut, Fit, byteWidths, pack, bitString}
 use Rattle.tape_model.specs.Ticket.{ticketLength, ticketRule, packTicket, headRule}
+use Rattle.tape_model.specs.Cases.{ticketWith}
+use Rattle.tape_model.specs.Listing.{decimal, listed, exampleText}
 use Rattle.tape_model.specs.Tape.{ticketLimit, packTickets, tapeOf, totalNet, Totals, openTape}
 
 -- ## Formats, over every list of widths
@@ -42,3 +44,16 @@ abbrev pub TapeOpens : Type 0
 TapeOpens = (key : List ℕ) (head : Head) (tickets : List Ticket) (out : List ℕ)
     → length key ≡ keyLength → headRule head ≡ true → Valid tickets → length tickets ≤ ticketLimit → ticketLength * length tickets ≤ length out
     → openTape key (tapeOf key head tickets) out ≡ record { answer = did (record { tickets = length tickets; net = totalNet tickets }); out = over (packTickets tickets) out }
+
+-- ## The listing
+
+-- the number that decimal digits make, after the number a
+abbrev pub valueAfter : ℕ → List ℕ → ℕ
+valueAfter a [] = a
+valueAfter a (d ∷ ds) = valueAfter (10 * a + (d - 0x30)) ds
+
+pub record ListingLaws : Type 0 where
+  -- the digits of a listed number make that number
+  pub digits : (n : ℕ) → n < 10 ^ 20 → valueAfter 0 (decimal n) ≡ n
+  -- document 01's example
+  pub example : listed (did (record { device = 7; shift = 2; sheet = 1 })) (ticketWith 3600 4200 250000 110000 ∷ []) ≡ exampleText

@@ -4,5 +4,5 @@ pub mod Tape
 pub mod Writer
 pub mod Reader
 pub mod Listing
-pub mod Laws
 pub mod Cases
+pub mod Laws
