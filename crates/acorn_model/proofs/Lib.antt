@@ -5,3 +5,9 @@ pub mod States
 pub mod Scheduled
 pub mod Agree
 pub mod Pieces
+pub mod Inverse
+pub mod Lengths
+pub mod Only
+pub mod SameBytes
+pub mod Whole
+pub mod Proved

@@ -7,7 +7,7 @@ use native.Mathlib.Omega.{arith}
 use lib.ListN.{length, length-append}
 use Rattle.acorn_model.specs.Bits.{Bits, _⊕_, bitsIn, bytes}
 use Rattle.acorn_model.specs.Step.{StepInput, run, keystreamBit}
-use Rattle.acorn_model.specs.Stretches.{Stretch, dataPiece, textPiece, inputs, through, keystream, textOut, dataPieces, textPieces, textPiecesOut, joined}
+use Rattle.acorn_model.specs.Stretches.{Stretch, start, dataPiece, dataEnd, textPiece, textEnd, inputs, through, keystream, textOut, tagOf, zeros, afterData, beforeFinal, dataPieces, textPieces, textPiecesOut, joined}
 use Rattle.acorn_model.proofs.Bytes.{bytes-length, bytes-same, bytes-add, bytes-are-bytes, bits-left, bits-right}
 use Rattle.acorn_model.proofs.Runs.{run-same, run-none, run-on}
 
@@ -94,3 +94,16 @@ module _ (opening : Bool) where
   unfolding textPiecesOut joined
   out-joined [] S = sym (out-none S)
   out-joined (l ∷ ls) S = ap (λ (t : List ℕ). textOut opening l S ++ t) (out-joined ls (through (textPiece opening l) S)) ∙ sym (out-append l (joined ls) S)
+
+-- ## A message
+
+module _ (key nonce : List ℕ) (ds : List (List ℕ)) where
+  pub after-data-pieces : through dataEnd (dataPieces ds (through (start key nonce) zeros)) ≡ afterData key nonce (joined ds)
+  after-data-pieces = ap (through dataEnd) (data-joined ds (through (start key nonce) zeros))
+
+  module _ (opening : Bool) (ts : List (List ℕ)) where
+    pub message-out : textPiecesOut opening ts (through dataEnd (dataPieces ds (through (start key nonce) zeros))) ≡ textOut opening (joined ts) (afterData key nonce (joined ds))
+    message-out = out-joined opening ts _ ∙ ap (textOut opening (joined ts)) after-data-pieces
+
+    pub message-tag : tagOf (through textEnd (textPieces opening ts (through dataEnd (dataPieces ds (through (start key nonce) zeros))))) ≡ tagOf (beforeFinal opening (joined ts) (afterData key nonce (joined ds)))
+    message-tag = ap (λ (S : Bits). tagOf (through textEnd S)) (text-joined opening ts _ ∙ ap (through (textPiece opening (joined ts))) after-data-pieces)

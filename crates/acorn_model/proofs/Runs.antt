@@ -13,6 +13,10 @@ pub run-none : (g : ℕ → StepInput) (S : Bits) → run g 0 S ≡ S
 unfolding run
 run-none g S = refl
 
+pub run-next : (g : ℕ → StepInput) (n : ℕ) (S : Bits) → run g (n + 1) S ≡ stepOn (g n) (run g n S)
+unfolding run
+run-next g n S = ap (λ (k : ℕ). run g k S) {x = n + 1} {y = suc n} (omega arith)
+
 pub run-add : (g : ℕ → StepInput) (a b : ℕ) (S : Bits) → run g (a + b) S ≡ run (λ i. g (a + i)) b (run g a S)
 unfolding run
 run-add g a zero S = ap (λ (n : ℕ). run g n S) {x = a + 0} {y = a} (omega arith)
