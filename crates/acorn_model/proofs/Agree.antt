@@ -1,16 +1,16 @@
 -- A run whose m, ca and cb are as the paper's Schedule says goes through document 01's stretches. So the paper's ciphertext and tag are those of the stretches.
-use mathlib.Core.Path.{_≡_, refl, sym, ap, ap₂, _∙_}
-use mathlib.Core.Bool.{Bool, true, false, _&&_, cond}
+use mathlib.Core.Path.{_≡_, refl, sym, ap, _∙_}
+use mathlib.Core.Bool.{Bool, true, false, _&&_}
 use mathlib.Core.List.{List}
 use mathlib.Core.Logic.{⊎-elim}
-use Prim.Native.Nat.{ℕ, _+_, _-_, _*_, _%_, _≤_, _<_}
+use Prim.Native.Nat.{ℕ, _+_, _-_, _*_, _≤_, _<_}
 use native.Mathlib.Omega.{arith}
 use lib.Dec.{eqb, ltb}
 use lib.ListN.{length}
 use borrow.Author.Tests.{lt-ltb, le-ltb, eq-eqb, ne-eqb}
-use Rattle.acorn_model.specs.Bits.{Bits, _⊕_, _if_else_, bitsIn, bytes}
+use Rattle.acorn_model.specs.Bits.{Bits, _⊕_, bitsIn, bytes}
 use Rattle.acorn_model.specs.Step.{StepInput, run, keystreamBit}
-use Rattle.acorn_model.specs.Stretches.{Stretch, tagLength, tagBits, startBit, start, dataPiece, dataEnd, textPiece, textEnd, final, inputs, through, keystream, textOut, tagOf, zeros, afterData, beforeFinal}
+use Rattle.acorn_model.specs.Stretches.{Stretch, tagLength, tagBits, startBit, start, dataPiece, textPiece, final, inputs, through, keystream, textOut, tagOf, zeros, afterData, beforeFinal}
 use Rattle.acorn_model.specs.Paper.{_from_to_, Schedule, inputAt, stateAt, ksAt, textBitOut, tagBit, ciphertext, tag, decrypted, newTag}
 use Rattle.acorn_model.proofs.Numbers.{lt-or-ge}
 use Rattle.acorn_model.proofs.Bytes.{bytes-same}
@@ -18,7 +18,7 @@ use Rattle.acorn_model.proofs.Runs.{input-same, run-none, run-on}
 use Rattle.acorn_model.proofs.Scheduled.{scheduled}
 
 -- data end and text end differ in cb alone
-abbrev end : Bool → Stretch
+abbrev pub end : Bool → Stretch
 end cb = record { steps = 256; m = λ i ks. eqb i 0; ca = λ i. ltb i 128; cb = cb }
 
 xor-true : (a : Bool) → a ⊕ true ≡ true ⊕ a
@@ -36,6 +36,13 @@ module _ (opening : Bool) (key nonce «data» text : List ℕ) (g : ℕ → Step
 
   abbrev P : ℕ
   P = 8 * length text
+
+  -- the states after start and after the data end
+  abbrev B : Bits
+  B = through (start key nonce) zeros
+
+  abbrev D : Bits
+  D = afterData key nonce «data»
 
   start-bit : (ks : Bool) (i : ℕ) → i < 1792 → g i .m ks ≡ startBit key nonce i
   unfolding startBit
@@ -62,17 +69,17 @@ module _ (opening : Bool) (key nonce «data» text : List ℕ) (g : ℕ → Step
       onward : 128 ≤ i → g i .m ks ≡ startBit key nonce i
       onward k = ⊎-elim (in-nonce k) (λ (k' : 256 ≤ i). ⊎-elim (inverted k') again (lt-or-ge i 257)) (lt-or-ge i 256)
 
-  after-start : run g 1792 zeros ≡ through (start key nonce) zeros
+  after-start : run g 1792 zeros ≡ B
   unfolding through
   after-start =
       run-on g (inputs (start key nonce)) 0 1792 zeros zeros (run-none g zeros)
       (λ i l. ap g {x = 0 + i} {y = i} (omega arith)
       ∙ input-same (g i) (inputs (start key nonce) i) (h false .ca-start i (omega arith)) (h false .cb-start i (omega arith)) (λ ks. start-bit ks i l))
 
-  after-data : run g (1792 + A) zeros ≡ through (dataPiece «data») (through (start key nonce) zeros)
+  after-data : run g (1792 + A) zeros ≡ through (dataPiece «data») B
   unfolding through
   after-data =
-      run-on g (inputs (dataPiece «data»)) 1792 A zeros (through (start key nonce) zeros) after-start
+      run-on g (inputs (dataPiece «data»)) 1792 A zeros B after-start
       (λ i l. input-same (g (1792 + i)) (inputs (dataPiece «data») i) (h false .ca-data i (omega arith)) (h false .cb-data i (omega arith)) (λ ks. h ks .m-data i l))
 
   -- k steps into a stretch that starts at the paper's step n
@@ -103,48 +110,48 @@ module _ (opening : Bool) (key nonce «data» text : List ℕ) (g : ℕ → Step
       (λ (k : i < 1). ap (λ (x : ℕ). g x .m ks) {x = 1792 + (n + i)} {y = 1792 + n} (omega arith) ∙ one ks ∙ sym (eq-eqb i 0 (omega arith)))
       (λ (k : 1 ≤ i). zero ks i (omega arith) ∙ sym (ne-eqb i 0 (omega arith))) (lt-or-ge i 1))
 
-  after-data-end : run g (1792 + (A + 256)) zeros ≡ afterData key nonce «data»
+  after-data-end : run g (1792 + (A + 256)) zeros ≡ D
   after-data-end =
-      after-end true A (through (dataPiece «data») (through (start key nonce) zeros)) after-data
+      after-end true A (through (dataPiece «data») B) after-data
       (λ i l. h false .ca-data (A + i) (omega arith)) (λ i r. h false .ca-data-end (A + i) (omega arith)) (λ i l. h false .cb-data (A + i) (omega arith))
       (λ ks. h ks .m-data-one) (λ ks i r. h ks .m-data-zeros i r)
 
   -- j steps into the text
-  in-text : (j : ℕ) → j ≤ P → run g (1792 + (A + 256 + j)) zeros ≡ run (inputs (textPiece opening text)) j (afterData key nonce «data»)
+  in-text : (j : ℕ) → j ≤ P → run g (1792 + (A + 256 + j)) zeros ≡ run (inputs (textPiece opening text)) j D
   in-text j k =
-      on (textPiece opening text) (A + 256) j (afterData key nonce «data») after-data-end
+      on (textPiece opening text) (A + 256) j D after-data-end
       (λ i l. h false .ca-text (A + 256 + i) (omega arith)) (λ i l. h false .cb-text (A + 256 + i) (omega arith))
       (λ i l ks. h ks .m-text i (omega arith) ∙ p-is ks i (omega arith))
 
-  after-text : run g (1792 + (A + 256 + P)) zeros ≡ through (textPiece opening text) (afterData key nonce «data»)
+  after-text : run g (1792 + (A + 256 + P)) zeros ≡ through (textPiece opening text) D
   unfolding through
   after-text = in-text P (omega arith)
 
-  after-text-end : run g (1792 + (A + 256 + P + 256)) zeros ≡ beforeFinal opening text (afterData key nonce «data»)
+  after-text-end : run g (1792 + (A + 256 + P + 256)) zeros ≡ beforeFinal opening text D
   after-text-end =
-      after-end false (A + 256 + P) (through (textPiece opening text) (afterData key nonce «data»)) after-text
+      after-end false (A + 256 + P) (through (textPiece opening text) D) after-text
       (λ i l. h false .ca-text (A + 256 + P + i) (omega arith)) (λ i r. h false .ca-text-end (A + 256 + P + i) (omega arith)) (λ i l. h false .cb-text (A + 256 + P + i) (omega arith))
       (λ ks. h ks .m-text-one) (λ ks i r. h ks .m-text-zeros i r)
 
   -- j steps into final
-  in-final : (j : ℕ) → j ≤ 768 → run g (1792 + (A + P + 512 + j)) zeros ≡ run (inputs final) j (beforeFinal opening text (afterData key nonce «data»))
+  in-final : (j : ℕ) → j ≤ 768 → run g (1792 + (A + P + 512 + j)) zeros ≡ run (inputs final) j (beforeFinal opening text D)
   in-final j k =
-      on final (A + P + 512) j (beforeFinal opening text (afterData key nonce «data»))
+      on final (A + P + 512) j (beforeFinal opening text D)
       (ap (λ (x : ℕ). run g x zeros) {x = 1792 + (A + P + 512)} {y = 1792 + (A + 256 + P + 256)} (omega arith) ∙ after-text-end)
       (λ i l. h false .ca-final (A + P + 512 + i) (omega arith)) (λ i l. h false .cb-final (A + P + 512 + i) (omega arith)) (λ i l ks. h ks .m-final i (omega arith))
 
   -- what comes out at the paper's indices
-  pub text-of-run : textOut opening text (afterData key nonce «data») ≡ bytes (length text) (λ j. bitsIn text j ⊕ keystreamBit (run g (1792 + (A + 256 + j)) zeros))
+  pub text-of-run : textOut opening text D ≡ bytes (length text) (λ j. bitsIn text j ⊕ keystreamBit (run g (1792 + (A + 256 + j)) zeros))
   unfolding textOut keystream
   text-of-run =
-      bytes-same (length text) (λ j. bitsIn text j ⊕ keystreamBit (run (inputs (textPiece opening text)) j (afterData key nonce «data»)))
+      bytes-same (length text) (λ j. bitsIn text j ⊕ keystreamBit (run (inputs (textPiece opening text)) j D))
       (λ j. bitsIn text j ⊕ keystreamBit (run g (1792 + (A + 256 + j)) zeros))
       (λ j l. ap (λ (S : Bits). bitsIn text j ⊕ keystreamBit S) (sym (in-text j (omega arith))))
 
-  pub tag-of-run : tagOf (beforeFinal opening text (afterData key nonce «data»)) ≡ bytes tagLength (λ j. keystreamBit (run g (1792 + (A + P + 1279 - tagBits + 1 + j)) zeros))
+  pub tag-of-run : tagOf (beforeFinal opening text D) ≡ bytes tagLength (λ j. keystreamBit (run g (1792 + (A + P + 1279 - tagBits + 1 + j)) zeros))
   unfolding tagOf keystream
   tag-of-run =
-      bytes-same tagLength (λ j. keystreamBit (run (inputs final) (768 - tagBits + j) (beforeFinal opening text (afterData key nonce «data»))))
+      bytes-same tagLength (λ j. keystreamBit (run (inputs final) (768 - tagBits + j) (beforeFinal opening text D)))
       (λ j. keystreamBit (run g (1792 + (A + P + 1279 - tagBits + 1 + j)) zeros))
       (λ j l. let e : 1792 + (A + P + 512 + (768 - tagBits + j)) ≡ 1792 + (A + P + 1279 - tagBits + 1 + j) = omega arith in
       ap keystreamBit (sym (in-final (768 - tagBits + j) (omega arith)) ∙ ap (λ (x : ℕ). run g x zeros) e))
@@ -158,26 +165,26 @@ module _ (key nonce «data» : List ℕ) where
         (λ i. inputAt opening key nonce «data» text i .m ks) (λ i. inputAt opening key nonce «data» text i .ca) (λ i. inputAt opening key nonce «data» text i .cb)
     follows ks = scheduled (bitsIn key) (bitsIn nonce) (bitsIn «data») (λ j. (opening && ks) ⊕ bitsIn text j) (8 * length «data») (8 * length text)
 
-    text-agrees : textOut opening text (afterData key nonce «data») ≡ bytes (length text) (textBitOut opening key nonce «data» text)
+    textBits-agree : textOut opening text (afterData key nonce «data») ≡ bytes (length text) (textBitOut opening key nonce «data» text)
     unfolding textBitOut ksAt stateAt
-    text-agrees = text-of-run opening key nonce «data» text (inputAt opening key nonce «data» text) (λ ks j. (opening && ks) ⊕ bitsIn text j) (λ ks j l. refl) follows
+    textBits-agree = text-of-run opening key nonce «data» text (inputAt opening key nonce «data» text) (λ ks j. (opening && ks) ⊕ bitsIn text j) (λ ks j l. refl) follows
 
-    tag-agrees : tagOf (beforeFinal opening text (afterData key nonce «data»)) ≡ bytes tagLength (tagBit opening key nonce «data» text)
+    tagBits-agree : tagOf (beforeFinal opening text (afterData key nonce «data»)) ≡ bytes tagLength (tagBit opening key nonce «data» text)
     unfolding tagBit ksAt stateAt
-    tag-agrees = tag-of-run opening key nonce «data» text (inputAt opening key nonce «data» text) (λ ks j. (opening && ks) ⊕ bitsIn text j) (λ ks j l. refl) follows
+    tagBits-agree = tag-of-run opening key nonce «data» text (inputAt opening key nonce «data» text) (λ ks j. (opening && ks) ⊕ bitsIn text j) (λ ks j l. refl) follows
 
   pub ciphertext-agrees : (text : List ℕ) → textOut false text (afterData key nonce «data») ≡ ciphertext key nonce «data» text
   unfolding ciphertext
-  ciphertext-agrees = text-agrees false
+  ciphertext-agrees = textBits-agree false
 
   pub decrypted-agrees : (cipher : List ℕ) → textOut true cipher (afterData key nonce «data») ≡ decrypted key nonce «data» cipher
   unfolding decrypted
-  decrypted-agrees = text-agrees true
+  decrypted-agrees = textBits-agree true
 
-  pub tag-same : (text : List ℕ) → tagOf (beforeFinal false text (afterData key nonce «data»)) ≡ tag key nonce «data» text
+  pub tag-agrees : (text : List ℕ) → tagOf (beforeFinal false text (afterData key nonce «data»)) ≡ tag key nonce «data» text
   unfolding tag
-  tag-same = tag-agrees false
+  tag-agrees = tagBits-agree false
 
-  pub newTag-same : (cipher : List ℕ) → tagOf (beforeFinal true cipher (afterData key nonce «data»)) ≡ newTag key nonce «data» cipher
+  pub newTag-agrees : (cipher : List ℕ) → tagOf (beforeFinal true cipher (afterData key nonce «data»)) ≡ newTag key nonce «data» cipher
   unfolding newTag
-  newTag-same = tag-agrees true
+  newTag-agrees = tagBits-agree true

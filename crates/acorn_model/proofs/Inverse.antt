@@ -8,12 +8,12 @@ use native.Mathlib.Omega.{arith}
 use lib.ListN.{length}
 use Rattle.acorn_model.specs.Bits.{Bits, AreBytes, _⊕_, bitsIn, bytes}
 use Rattle.acorn_model.specs.Step.{step, run, keystreamBit}
-use Rattle.acorn_model.specs.Stretches.{textPiece, textEnd, inputs, through, keystream, textOut, tagOf, afterData, beforeFinal}
-use Rattle.acorn_model.specs.Paper.{textBitOut, ciphertext, tag, decrypted, newTag, Opens}
-use Rattle.acorn_model.proofs.Bytes.{bytes-same, bits-of-bytes, bytes-of-bits, bytes-are-bytes}
+use Rattle.acorn_model.specs.Stretches.{textPiece, textEnd, inputs, through, keystream, textOut, tagOf, afterData}
+use Rattle.acorn_model.specs.Paper.{ciphertext, tag, decrypted, newTag, Opens}
+use Rattle.acorn_model.proofs.Bytes.{bytes-same, bits-of-bytes, bytes-of-bits}
 use Rattle.acorn_model.proofs.Runs.{run-same-at}
-use Rattle.acorn_model.proofs.Pieces.{out-length}
-use Rattle.acorn_model.proofs.Agree.{ciphertext-agrees, tag-same, decrypted-agrees, newTag-same}
+use Rattle.acorn_model.proofs.Outputs.{textOut-length, ciphertext-are-bytes}
+use Rattle.acorn_model.proofs.Agree.{ciphertext-agrees, tag-agrees, decrypted-agrees, newTag-agrees}
 
 -- ## The stretch
 
@@ -52,38 +52,38 @@ module _ (o : Bool) (S : Bits) (l c : List ℕ) (same-length : length c ≡ leng
   unfolding keystream
   bit-back j h = ap₂ _⊕_ (c-is j h) (ap keystreamBit (run-back j (omega arith))) ∙ twice (bitsIn l j) (keystream (textPiece o l) S j)
 
-  out-back : AreBytes l → textOut (not o) c S ≡ l
+  textOut-back : AreBytes l → textOut (not o) c S ≡ l
   unfolding textOut
-  out-back h =
+  textOut-back h =
       ap (λ (n : ℕ). bytes n (λ j. bitsIn c j ⊕ keystream (textPiece (not o) c) S j)) same-length
       ∙ bytes-same (length l) (λ j. bitsIn c j ⊕ keystream (textPiece (not o) c) S j) (bitsIn l) bit-back
       ∙ bytes-of-bits l h
 
 module _ (o : Bool) (l : List ℕ) (S : Bits) where
-  pub out-bits : (j : ℕ) → j < 8 * length l → bitsIn (textOut o l S) j ≡ bitsIn l j ⊕ keystream (textPiece o l) S j
+  pub textOut-bits : (j : ℕ) → j < 8 * length l → bitsIn (textOut o l S) j ≡ bitsIn l j ⊕ keystream (textPiece o l) S j
   unfolding textOut
-  out-bits = bits-of-bytes (length l) (λ j. bitsIn l j ⊕ keystream (textPiece o l) S j)
+  textOut-bits = bits-of-bytes (length l) (λ j. bitsIn l j ⊕ keystream (textPiece o l) S j)
 
   pub through-inverse : through (textPiece (not o) (textOut o l S)) S ≡ through (textPiece o l) S
-  through-inverse = through-back o S l (textOut o l S) (out-length o l S) out-bits
+  through-inverse = through-back o S l (textOut o l S) (textOut-length o l S) textOut-bits
 
-  pub out-inverse : AreBytes l → textOut (not o) (textOut o l S) S ≡ l
-  out-inverse = out-back o S l (textOut o l S) (out-length o l S) out-bits
+  pub textOut-inverse : AreBytes l → textOut (not o) (textOut o l S) S ≡ l
+  textOut-inverse = textOut-back o S l (textOut o l S) (textOut-length o l S) textOut-bits
 
 -- ## The paper's functions
 
 module _ (key nonce «data» : List ℕ) where
   pub decrypted-ciphertext : (text : List ℕ) → AreBytes text → decrypted key nonce «data» (ciphertext key nonce «data» text) ≡ text
   decrypted-ciphertext text h =
-      rw (← decrypted-agrees key nonce «data» (ciphertext key nonce «data» text), ← ciphertext-agrees key nonce «data» text) (out-inverse false text (afterData key nonce «data») h)
+      rw (← decrypted-agrees key nonce «data» (ciphertext key nonce «data» text), ← ciphertext-agrees key nonce «data» text) (textOut-inverse false text (afterData key nonce «data») h)
 
   pub ciphertext-decrypted : (cipher : List ℕ) → AreBytes cipher → ciphertext key nonce «data» (decrypted key nonce «data» cipher) ≡ cipher
   ciphertext-decrypted cipher h =
-      rw (← ciphertext-agrees key nonce «data» (decrypted key nonce «data» cipher), ← decrypted-agrees key nonce «data» cipher) (out-inverse true cipher (afterData key nonce «data») h)
+      rw (← ciphertext-agrees key nonce «data» (decrypted key nonce «data» cipher), ← decrypted-agrees key nonce «data» cipher) (textOut-inverse true cipher (afterData key nonce «data») h)
 
   pub newTag-ciphertext : (text : List ℕ) → newTag key nonce «data» (ciphertext key nonce «data» text) ≡ tag key nonce «data» text
   newTag-ciphertext text =
-      rw (← newTag-same key nonce «data» (ciphertext key nonce «data» text), ← ciphertext-agrees key nonce «data» text, ← tag-same key nonce «data» text)
+      rw (← newTag-agrees key nonce «data» (ciphertext key nonce «data» text), ← ciphertext-agrees key nonce «data» text, ← tag-agrees key nonce «data» text)
       (ap (λ (S : Bits). tagOf (through textEnd S)) (through-inverse false text (afterData key nonce «data»)))
 
   pub tag-decrypted : (cipher : List ℕ) → AreBytes cipher → tag key nonce «data» (decrypted key nonce «data» cipher) ≡ newTag key nonce «data» cipher
@@ -106,7 +106,6 @@ module _ (key nonce «data» : List ℕ) where
           }
 
   pub opens-with-tag : (text t : List ℕ) → AreBytes text → Opens key nonce «data» (ciphertext key nonce «data» text) t text ↔ (t ≡ tag key nonce «data» text)
-  unfolding ciphertext
   opens-with-tag text t h =
-      let e = opens-exactly (ciphertext key nonce «data» text) t text (bytes-are-bytes (length text) (textBitOut false key nonce «data» text)) h in
+      let e = opens-exactly (ciphertext key nonce «data» text) t text (ciphertext-are-bytes key nonce «data» text) h in
       (λ o. e .0 o .1, λ p. e .1 (refl, p))

@@ -2,12 +2,12 @@ pub mod Numbers
 pub mod Bytes
 pub mod Runs
 pub mod States
+pub mod Outputs
 pub mod Scheduled
 pub mod Agree
 pub mod Pieces
 pub mod Inverse
-pub mod Lengths
-pub mod Only
+pub mod Relation
 pub mod SameBytes
 pub mod Whole
 pub mod Proved

@@ -1,16 +1,15 @@
 -- One step by its bits, and states with the same bits 0 to 292: steps, runs and what comes out are the same on them.
 use mathlib.Core.Path.{_≡_, refl, sym, ap, ap₂, _∙_}
-use mathlib.Core.Bool.{Bool, cond}
+use mathlib.Core.Bool.{Bool}
 use mathlib.Core.List.{List}
 use mathlib.Core.Logic.{⊎-elim}
-use Prim.Native.Nat.{ℕ, zero, suc, _+_, _-_, _*_, _≤_, _<_}
+use Prim.Native.Nat.{ℕ, zero, suc, _≤_, _<_}
 use native.Mathlib.Omega.{arith}
 use lib.Dec.{eqb}
-use lib.ListN.{length}
-use borrow.Author.Tests.{eq-eqb, ne-eqb}
-use Rattle.acorn_model.specs.Bits.{Bits, _⊕_, _if_else_, bitsIn, bytes}
+use borrow.Author.Tests.{ne-eqb}
+use Rattle.acorn_model.specs.Bits.{Bits, _⊕_, _if_else_}
 use Rattle.acorn_model.specs.Step.{_⊕=_and_, lfsrUpdate, ksg128, fbk128, keystreamBit, feedbackBit, step, StepInput, stepOn, run}
-use Rattle.acorn_model.specs.Stretches.{Stretch, inputs, through, keystream, textPiece, textOut, final, tagLength, tagBits, tagOf}
+use Rattle.acorn_model.specs.Stretches.{Stretch, inputs, through, keystream, textPiece, textOut, final, tagOf}
 use Rattle.acorn_model.proofs.Numbers.{lt-or-ge}
 
 -- ## One step

@@ -1,21 +1,20 @@
 -- Whole opening: the tag matches and a text comes out exactly of the text's own sealing.
-use mathlib.Core.Path.{_≡_, refl, sym, ap, ap₂, _∙_}
-use mathlib.Core.Bool.{Bool, true}
+use mathlib.Core.Path.{_≡_, sym, ap, ap₂, _∙_}
+use mathlib.Core.Bool.{true}
 use mathlib.Core.List.{List, _++_}
 use mathlib.Core.Logic.{_↔_}
-use Prim.Native.Nat.{ℕ, _+_, _-_}
+use Prim.Native.Nat.{ℕ, _-_}
 use native.Mathlib.Omega.{arith}
-use lib.ListN.{length, take, drop, length-append, take-append-drop}
+use lib.ListN.{length, length-append, take-append-drop}
 use lib.Seq.{take-at, drop-at}
 use Rattle.acorn_model.specs.Bits.{AreBytes}
 use Rattle.acorn_model.specs.Stretches.{tagLength}
-use Rattle.acorn_model.specs.Paper.{ciphertext, tag, decrypted, newTag, Opens}
-use Rattle.acorn_model.specs.Calls.{sameBytes}
+use Rattle.acorn_model.specs.Paper.{ciphertext, tag, newTag, Opens}
 use Rattle.acorn_model.specs.Message.{cipherPart, tagPart, sealed, tagMatches, opened}
 use Rattle.acorn_model.proofs.Bytes.{take-are-bytes}
-use Rattle.acorn_model.proofs.Lengths.{tag-length}
+use Rattle.acorn_model.proofs.Outputs.{tag-length}
 use Rattle.acorn_model.proofs.SameBytes.{same-bytes-refl, same-bytes-true}
-use Rattle.acorn_model.proofs.Inverse.{decrypted-ciphertext, newTag-ciphertext, opens-exactly}
+use Rattle.acorn_model.proofs.Inverse.{opens-exactly}
 
 module _ (key nonce «data» : List ℕ) where
   parts : (text : List ℕ) → length (ciphertext key nonce «data» text) ≡ length (sealed key nonce «data» text) - tagLength
@@ -43,7 +42,7 @@ module _ (key nonce «data» : List ℕ) where
   unfolding sealed
   opened-exactly w text hw ht = (
     λ h. let e = opens-exactly key nonce «data» (cipherPart w) (tagPart w) text (take-are-bytes (length w - tagLength) w hw) ht .0 (opens w text .0 h) in
-    sym (take-append-drop (length w - tagLength) w) ∙ ap₂ _++_ (e .0) (e .1),
+        sym (take-append-drop (length w - tagLength) w) ∙ ap₂ _++_ (e .0) (e .1),
     λ (e : w ≡ sealed key nonce «data» text). opens w text .1
-    (opens-exactly key nonce «data» (cipherPart w) (tagPart w) text (take-are-bytes (length w - tagLength) w hw) ht .1 (ap cipherPart e ∙ cipher-part text, ap tagPart e ∙ tag-part text)),
+        (opens-exactly key nonce «data» (cipherPart w) (tagPart w) text (take-are-bytes (length w - tagLength) w hw) ht .1 (ap cipherPart e ∙ cipher-part text, ap tagPart e ∙ tag-part text)),
   )

@@ -1,21 +1,21 @@
 -- The functions are as the paper's relation says, and what the relation allows a text to be encrypted to, or a ciphertext to be decrypted to, is what they give.
 use mathlib.Core.Path.{_≡_, refl, sym, ap, ap₂, _∙_, subst}
-use mathlib.Core.Bool.{Bool, true, false, _&&_, cond}
+use mathlib.Core.Bool.{Bool, false}
 use mathlib.Core.List.{List}
-use Prim.Native.Nat.{ℕ, zero, suc, _+_, _-_, _*_, _%_, _≤_, _<_}
+use Prim.Native.Nat.{ℕ, zero, suc, _+_, _-_, _*_, _≤_, _<_}
 use native.Mathlib.Omega.{arith}
 use lib.ListN.{length}
-use Rattle.acorn_model.specs.Bits.{Bits, AreBytes, _⊕_, _if_else_, bitsIn, bytes}
-use Rattle.acorn_model.specs.Step.{lfsrUpdate, ksg128, fbk128, keystreamBit, feedbackBit, step, StepInput, stepOn, run}
+use Rattle.acorn_model.specs.Bits.{Bits, AreBytes, _⊕_, bitsIn, bytes}
+use Rattle.acorn_model.specs.Step.{lfsrUpdate, fbk128, keystreamBit, feedbackBit, step, StepInput, run}
 use Rattle.acorn_model.specs.Stretches.{tagLength, tagBits, zeros}
-use Rattle.acorn_model.specs.Paper.{Schedule, Encrypts, mAt, caAt, cbAt, inputAt, stateAt, ksAt, textBitOut, tagBit, ciphertext, tag, decrypted, newTag}
+use Rattle.acorn_model.specs.Paper.{mAt, caAt, cbAt, inputAt, stateAt, ksAt, textBitOut, tagBit, ciphertext, tag, decrypted, newTag}
 use Rattle.acorn_model.specs.Laws.{ByPaper}
 use Rattle.acorn_model.proofs.Bytes.{bytes-length, bytes-same, bits-of-bytes, bytes-of-bits, bytes-are-bytes}
 use Rattle.acorn_model.proofs.Runs.{run-none, run-next}
 use Rattle.acorn_model.proofs.States.{step-shifts, step-new, step-by-bits, Same, same-keystreamBit, same-step}
 use Rattle.acorn_model.proofs.Scheduled.{scheduled}
-use Rattle.acorn_model.proofs.Agree.{text-of-run, tag-of-run, ciphertext-agrees, tag-same}
-use Rattle.acorn_model.proofs.Lengths.{decrypted-length}
+use Rattle.acorn_model.proofs.Agree.{text-of-run, tag-of-run, ciphertext-agrees, tag-agrees}
+use Rattle.acorn_model.proofs.Outputs.{decrypted-length}
 use Rattle.acorn_model.proofs.Inverse.{decrypted-ciphertext, ciphertext-decrypted, newTag-ciphertext, tag-decrypted}
 
 module _ (key nonce «data» : List ℕ) where
@@ -62,7 +62,7 @@ module _ (key nonce «data» : List ℕ) where
     only-tag =
         bytes-same tagLength T (λ j. keystreamBit (run g (1792 + (A + P + 1279 - tagBits + 1 + j)) zeros))
         (λ j l. e .T-is j l ∙ keystream-bits (1792 + (A + P + 1279 - tagBits + 1 + j)) (omega arith))
-        ∙ sym (tag-of-run false key nonce «data» text g (λ ks. p) (λ ks. p-is) (λ ks. e .schedule)) ∙ tag-same key nonce «data» text
+        ∙ sym (tag-of-run false key nonce «data» text g (λ ks. p) (λ ks. p-is) (λ ks. e .schedule)) ∙ tag-agrees key nonce «data» text
 
   pub sealing-only : (text : List ℕ) (c T : Bits) → ByPaper key nonce «data» (length text) (bitsIn text) c T
       → (bytes (length text) c ≡ ciphertext key nonce «data» text) × (bytes tagLength T ≡ tag key nonce «data» text)
@@ -93,9 +93,9 @@ module _ (key nonce «data» : List ℕ) where
 
   -- ## The functions are as it says
 
-  pub sealing : (text : List ℕ) → ByPaper key nonce «data» (length text) (bitsIn text) (bitsIn (ciphertext key nonce «data» text)) (bitsIn (tag key nonce «data» text))
+  pub sealing-by-paper : (text : List ℕ) → ByPaper key nonce «data» (length text) (bitsIn text) (bitsIn (ciphertext key nonce «data» text)) (bitsIn (tag key nonce «data» text))
   unfolding ciphertext tag textBitOut tagBit ksAt stateAt keystreamBit feedbackBit
-  sealing text =
+  sealing-by-paper text =
       record {
         m = mAt (bitsIn key) (bitsIn nonce) (bitsIn «data») A (bitsIn text) (8 * length text);
         ca = caAt A (8 * length text);
@@ -115,8 +115,8 @@ module _ (key nonce «data» : List ℕ) where
       g = inputAt false key nonce «data» text
 
   -- by sealing what is decrypted
-  pub opening : (cipher : List ℕ) → AreBytes cipher
+  pub opening-by-paper : (cipher : List ℕ) → AreBytes cipher
       → ByPaper key nonce «data» (length cipher) (bitsIn (decrypted key nonce «data» cipher)) (bitsIn cipher) (bitsIn (newTag key nonce «data» cipher))
-  opening cipher h =
+  opening-by-paper cipher h =
       rw (ciphertext-decrypted key nonce «data» cipher h, tag-decrypted key nonce «data» cipher h, decrypted-length key nonce «data» cipher)
-      at (sealing (decrypted key nonce «data» cipher))
+      at (sealing-by-paper (decrypted key nonce «data» cipher))
