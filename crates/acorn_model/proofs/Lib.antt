@@ -1,1 +1,14 @@
 pub mod StepCases
+pub mod Numbers
+pub mod Bytes
+pub mod Runs
+pub mod States
+pub mod Outputs
+pub mod Scheduled
+pub mod Agree
+pub mod Pieces
+pub mod Inverse
+pub mod Relation
+pub mod SameBytes
+pub mod Whole
+pub mod Proved

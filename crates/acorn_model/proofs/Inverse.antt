@@ -1,0 +1,111 @@
+-- Opening undoes sealing and sealing undoes opening, with the same state after both. So a ciphertext and a tag open to a text exactly when they are the text's own.
+use mathlib.Core.Path.{_≡_, refl, sym, ap, ap₂, _∙_}
+use mathlib.Core.Bool.{Bool, true, false, not, _&&_}
+use mathlib.Core.List.{List}
+use mathlib.Core.Logic.{_↔_}
+use Prim.Native.Nat.{ℕ, _*_, _≤_, _<_}
+use native.Mathlib.Omega.{arith}
+use lib.ListN.{length}
+use Rattle.acorn_model.specs.Bits.{Bits, AreBytes, _⊕_, bitsIn, bytes}
+use Rattle.acorn_model.specs.Step.{step, run, keystreamBit}
+use Rattle.acorn_model.specs.Stretches.{textPiece, textEnd, inputs, through, keystream, textOut, tagOf, afterData}
+use Rattle.acorn_model.specs.Paper.{ciphertext, tag, decrypted, newTag, Opens}
+use Rattle.acorn_model.proofs.Bytes.{bytes-same, bits-of-bytes, bytes-of-bits}
+use Rattle.acorn_model.proofs.Runs.{run-same-at}
+use Rattle.acorn_model.proofs.Outputs.{textOut-length, ciphertext-are-bytes}
+use Rattle.acorn_model.proofs.Agree.{ciphertext-agrees, tag-agrees, decrypted-agrees, newTag-agrees}
+
+-- ## The stretch
+
+-- the text bit that enters is the same, from the text or from the ciphertext
+enters : (o b ks : Bool) → (not o && ks) ⊕ (b ⊕ ks) ≡ (o && ks) ⊕ b
+enters true true true = refl
+enters true true false = refl
+enters true false true = refl
+enters true false false = refl
+enters false true true = refl
+enters false true false = refl
+enters false false true = refl
+enters false false false = refl
+
+twice : (b ks : Bool) → b ⊕ ks ⊕ ks ≡ b
+twice true true = refl
+twice true false = refl
+twice false true = refl
+twice false false = refl
+
+-- c is the string l with the keystream, taken the other way
+module _ (o : Bool) (S : Bits) (l c : List ℕ) (same-length : length c ≡ length l)
+    (c-is : (j : ℕ) → j < 8 * length l → bitsIn c j ≡ bitsIn l j ⊕ keystream (textPiece o l) S j) where
+  run-back : (k : ℕ) → k ≤ 8 * length l → run (inputs (textPiece (not o) c)) k S ≡ run (inputs (textPiece o l)) k S
+  unfolding keystream
+  run-back k h =
+      run-same-at (inputs (textPiece (not o) c)) (inputs (textPiece o l)) k S
+      (λ i m. ap (λ (x : Bool). step true false x (run (inputs (textPiece o l)) i S))
+      (ap (λ (x : Bool). (not o && keystream (textPiece o l) S i) ⊕ x) (c-is i (omega arith)) ∙ enters o (bitsIn l i) (keystream (textPiece o l) S i)))
+
+  through-back : through (textPiece (not o) c) S ≡ through (textPiece o l) S
+  unfolding through
+  through-back = ap (λ (n : ℕ). run (inputs (textPiece (not o) c)) (8 * n) S) same-length ∙ run-back (8 * length l) (omega arith)
+
+  bit-back : (j : ℕ) → j < 8 * length l → bitsIn c j ⊕ keystream (textPiece (not o) c) S j ≡ bitsIn l j
+  unfolding keystream
+  bit-back j h = ap₂ _⊕_ (c-is j h) (ap keystreamBit (run-back j (omega arith))) ∙ twice (bitsIn l j) (keystream (textPiece o l) S j)
+
+  textOut-back : AreBytes l → textOut (not o) c S ≡ l
+  unfolding textOut
+  textOut-back h =
+      ap (λ (n : ℕ). bytes n (λ j. bitsIn c j ⊕ keystream (textPiece (not o) c) S j)) same-length
+      ∙ bytes-same (length l) (λ j. bitsIn c j ⊕ keystream (textPiece (not o) c) S j) (bitsIn l) bit-back
+      ∙ bytes-of-bits l h
+
+module _ (o : Bool) (l : List ℕ) (S : Bits) where
+  pub textOut-bits : (j : ℕ) → j < 8 * length l → bitsIn (textOut o l S) j ≡ bitsIn l j ⊕ keystream (textPiece o l) S j
+  unfolding textOut
+  textOut-bits = bits-of-bytes (length l) (λ j. bitsIn l j ⊕ keystream (textPiece o l) S j)
+
+  pub through-inverse : through (textPiece (not o) (textOut o l S)) S ≡ through (textPiece o l) S
+  through-inverse = through-back o S l (textOut o l S) (textOut-length o l S) textOut-bits
+
+  pub textOut-inverse : AreBytes l → textOut (not o) (textOut o l S) S ≡ l
+  textOut-inverse = textOut-back o S l (textOut o l S) (textOut-length o l S) textOut-bits
+
+-- ## The paper's functions
+
+module _ (key nonce «data» : List ℕ) where
+  pub decrypted-ciphertext : (text : List ℕ) → AreBytes text → decrypted key nonce «data» (ciphertext key nonce «data» text) ≡ text
+  decrypted-ciphertext text h =
+      rw (← decrypted-agrees key nonce «data» (ciphertext key nonce «data» text), ← ciphertext-agrees key nonce «data» text) (textOut-inverse false text (afterData key nonce «data») h)
+
+  pub ciphertext-decrypted : (cipher : List ℕ) → AreBytes cipher → ciphertext key nonce «data» (decrypted key nonce «data» cipher) ≡ cipher
+  ciphertext-decrypted cipher h =
+      rw (← ciphertext-agrees key nonce «data» (decrypted key nonce «data» cipher), ← decrypted-agrees key nonce «data» cipher) (textOut-inverse true cipher (afterData key nonce «data») h)
+
+  pub newTag-ciphertext : (text : List ℕ) → newTag key nonce «data» (ciphertext key nonce «data» text) ≡ tag key nonce «data» text
+  newTag-ciphertext text =
+      rw (← newTag-agrees key nonce «data» (ciphertext key nonce «data» text), ← ciphertext-agrees key nonce «data» text, ← tag-agrees key nonce «data» text)
+      (ap (λ (S : Bits). tagOf (through textEnd S)) (through-inverse false text (afterData key nonce «data»)))
+
+  pub tag-decrypted : (cipher : List ℕ) → AreBytes cipher → tag key nonce «data» (decrypted key nonce «data» cipher) ≡ newTag key nonce «data» cipher
+  tag-decrypted cipher h = sym (newTag-ciphertext (decrypted key nonce «data» cipher)) ∙ ap (newTag key nonce «data») (ciphertext-decrypted cipher h)
+
+  pub opens-exactly : (cipher t text : List ℕ) → AreBytes cipher → AreBytes text
+      → Opens key nonce «data» cipher t text ↔ ((cipher ≡ ciphertext key nonce «data» text) × (t ≡ tag key nonce «data» text))
+  opens-exactly cipher t text hc ht = (forth, back)
+    where
+      forth : Opens key nonce «data» cipher t text → (cipher ≡ ciphertext key nonce «data» text) × (t ≡ tag key nonce «data» text)
+      forth o =
+          let c : cipher ≡ ciphertext key nonce «data» text = sym (ciphertext-decrypted cipher hc) ∙ ap (ciphertext key nonce «data») (o .gives) in
+          (c, sym (o .verifies) ∙ ap (newTag key nonce «data») c ∙ newTag-ciphertext text)
+
+      back : (cipher ≡ ciphertext key nonce «data» text) × (t ≡ tag key nonce «data» text) → Opens key nonce «data» cipher t text
+      back e =
+          record {
+            verifies = ap (newTag key nonce «data») (e .0) ∙ newTag-ciphertext text ∙ sym (e .1);
+            gives = ap (decrypted key nonce «data») (e .0) ∙ decrypted-ciphertext text ht;
+          }
+
+  pub opens-with-tag : (text t : List ℕ) → AreBytes text → Opens key nonce «data» (ciphertext key nonce «data» text) t text ↔ (t ≡ tag key nonce «data» text)
+  opens-with-tag text t h =
+      let e = opens-exactly (ciphertext key nonce «data» text) t text (ciphertext-are-bytes key nonce «data» text) h in
+      (λ o. e .0 o .1, λ p. e .1 (refl, p))

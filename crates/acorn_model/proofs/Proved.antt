@@ -1,0 +1,47 @@
+-- The statements of specs/Laws.antt, proved.
+use mathlib.Core.Path.{ap, _∙_}
+use mathlib.Core.Bool.{true, false}
+use mathlib.Core.List.{List}
+use Prim.Native.Nat.{ℕ}
+use Rattle.acorn_model.specs.Stretches.{joined}
+use Rattle.acorn_model.specs.Paper.{ciphertext, tag, decrypted, newTag}
+use Rattle.acorn_model.specs.Laws.{PaperComputed, OpeningExact, StretchesAgree}
+use Rattle.acorn_model.proofs.Agree.{ciphertext-agrees, tag-agrees, decrypted-agrees, newTag-agrees}
+use Rattle.acorn_model.proofs.Pieces.{message-out, message-tag}
+use Rattle.acorn_model.proofs.Inverse.{decrypted-ciphertext, opens-with-tag, opens-exactly}
+use Rattle.acorn_model.proofs.Relation.{sealing-by-paper, sealing-only, opening-by-paper, opening-only}
+use Rattle.acorn_model.proofs.Whole.{opened-exactly}
+
+module _ (key nonce «data» : List ℕ) where
+  pub paper-computed : PaperComputed key nonce «data»
+  paper-computed =
+      record {
+        sealing = sealing-by-paper key nonce «data»;
+        sealing-only = sealing-only key nonce «data»;
+        opening = opening-by-paper key nonce «data»;
+        opening-only = opening-only key nonce «data»;
+      }
+
+  pub opening-exact : OpeningExact key nonce «data»
+  opening-exact =
+      record {
+        undone = decrypted-ciphertext key nonce «data»;
+        with-tag = opens-with-tag key nonce «data»;
+        exactly = opens-exactly key nonce «data»;
+        whole = opened-exactly key nonce «data»;
+      }
+
+  pub stretches-agree : StretchesAgree key nonce «data»
+  stretches-agree =
+      record {
+        sealing = λ text. (ciphertext-agrees key nonce «data» text, tag-agrees key nonce «data» text);
+        opening = λ cipher. (decrypted-agrees key nonce «data» cipher, newTag-agrees key nonce «data» cipher);
+        sealing-pieces = λ ds ts e. (
+          message-out key nonce ds false ts ∙ ciphertext-agrees key nonce (joined ds) (joined ts) ∙ ap (λ (d : List ℕ). ciphertext key nonce d (joined ts)) e,
+          message-tag key nonce ds false ts ∙ tag-agrees key nonce (joined ds) (joined ts) ∙ ap (λ (d : List ℕ). tag key nonce d (joined ts)) e,
+        );
+        opening-pieces = λ ds ts e. (
+          message-out key nonce ds true ts ∙ decrypted-agrees key nonce (joined ds) (joined ts) ∙ ap (λ (d : List ℕ). decrypted key nonce d (joined ts)) e,
+          message-tag key nonce ds true ts ∙ newTag-agrees key nonce (joined ds) (joined ts) ∙ ap (λ (d : List ℕ). newTag key nonce d (joined ts)) e,
+        );
+      }

@@ -1,0 +1,100 @@
+-- One step by its bits, and states with the same bits 0 to 292: steps, runs and what comes out are the same on them.
+use mathlib.Core.Path.{_≡_, refl, sym, ap, ap₂, _∙_}
+use mathlib.Core.Bool.{Bool}
+use mathlib.Core.List.{List}
+use mathlib.Core.Logic.{⊎-elim}
+use Prim.Native.Nat.{ℕ, zero, suc, _≤_, _<_}
+use native.Mathlib.Omega.{arith}
+use lib.Dec.{eqb}
+use borrow.Author.Tests.{ne-eqb}
+use Rattle.acorn_model.specs.Bits.{Bits, _⊕_, _if_else_}
+use Rattle.acorn_model.specs.Step.{_⊕=_and_, lfsrUpdate, ksg128, fbk128, keystreamBit, feedbackBit, step, StepInput, stepOn, run}
+use Rattle.acorn_model.specs.Stretches.{Stretch, inputs, through, keystream, textPiece, textOut, final, tagOf}
+use Rattle.acorn_model.proofs.Numbers.{lt-or-ge}
+
+-- ## One step
+
+module _ (ca cb m : Bool) (S : Bits) where
+  pub step-shifts : (q : ℕ) → q < 292 → step ca cb m S q ≡ lfsrUpdate S (suc q)
+  unfolding step
+  step-shifts q l = rw (ne-eqb q 292 (omega arith))
+
+  pub step-new : step ca cb m S 292 ≡ feedbackBit ca cb S ⊕ m
+  unfolding step
+  step-new = refl
+
+  -- so these two make the step
+  pub step-by-bits : (R : Bits) → ((q : ℕ) → q < 292 → R q ≡ lfsrUpdate S (suc q)) → R 292 ≡ feedbackBit ca cb S ⊕ m → (q : ℕ) → q ≤ 292 → R q ≡ step ca cb m S q
+  step-by-bits R shifts new q l =
+      ⊎-elim (λ (k : q < 292). shifts q k ∙ sym (step-shifts q k))
+      (λ (k : 292 ≤ q). let e : q ≡ 292 = omega arith in rw e (new ∙ sym step-new)) (lt-or-ge q 292)
+
+-- ## The same 293 bits
+
+abbrev pub Same : Bits → Bits → Type 0
+Same S R = (q : ℕ) → q ≤ 292 → S q ≡ R q
+
+same-⊕= : (p a b : ℕ) (S R : Bits) → p ≤ 292 → a ≤ 292 → b ≤ 292 → Same S R → Same ((p ⊕= a and b) S) ((p ⊕= a and b) R)
+unfolding _⊕=_and_
+same-⊕= p a b S R hp ha hb h q l = ap₂ (λ (x y : Bool). x if eqb q p else y) (ap₂ _⊕_ (h p hp) (ap₂ _⊕_ (h a ha) (h b hb))) (h q l)
+
+module _ (S R : Bits) (h : Same S R) where
+  pub same-lfsrUpdate : Same (lfsrUpdate S) (lfsrUpdate R)
+  unfolding lfsrUpdate
+  same-lfsrUpdate =
+      same-⊕= 61 23 0 _ _ (omega arith) (omega arith) (omega arith)
+      (same-⊕= 107 66 61 _ _ (omega arith) (omega arith) (omega arith)
+      (same-⊕= 154 111 107 _ _ (omega arith) (omega arith) (omega arith)
+      (same-⊕= 193 160 154 _ _ (omega arith) (omega arith) (omega arith)
+      (same-⊕= 230 196 193 _ _ (omega arith) (omega arith) (omega arith)
+      (same-⊕= 289 235 230 S R (omega arith) (omega arith) (omega arith) h)))))
+
+  same-ksg128 : ksg128 S ≡ ksg128 R
+  unfolding ksg128
+  same-ksg128 = rw (h 12 (omega arith), h 154 (omega arith), h 235 (omega arith), h 61 (omega arith), h 193 (omega arith), h 230 (omega arith), h 111 (omega arith), h 66 (omega arith))
+
+  same-fbk128 : (ca cb ks : Bool) → fbk128 ca cb ks S ≡ fbk128 ca cb ks R
+  unfolding fbk128
+  same-fbk128 ca cb ks = rw (h 0 (omega arith), h 107 (omega arith), h 244 (omega arith), h 23 (omega arith), h 160 (omega arith), h 196 (omega arith))
+
+module _ (S R : Bits) (h : Same S R) where
+  pub same-keystreamBit : keystreamBit S ≡ keystreamBit R
+  unfolding keystreamBit
+  same-keystreamBit = same-ksg128 (lfsrUpdate S) (lfsrUpdate R) (same-lfsrUpdate S R h)
+
+  pub same-feedbackBit : (ca cb : Bool) → feedbackBit ca cb S ≡ feedbackBit ca cb R
+  unfolding feedbackBit
+  same-feedbackBit ca cb =
+      ap (λ (ks : Bool). fbk128 ca cb ks (lfsrUpdate S)) same-keystreamBit ∙ same-fbk128 (lfsrUpdate S) (lfsrUpdate R) (same-lfsrUpdate S R h) ca cb (keystreamBit R)
+
+  pub same-step : (ca cb m : Bool) → Same (step ca cb m S) (step ca cb m R)
+  same-step ca cb m =
+      step-by-bits ca cb m R (step ca cb m S) (λ q l. step-shifts ca cb m S q l ∙ same-lfsrUpdate S R h (suc q) (omega arith))
+      (step-new ca cb m S ∙ ap (λ (f : Bool). f ⊕ m) (same-feedbackBit ca cb))
+
+  pub same-stepOn : (input : StepInput) → Same (stepOn input S) (stepOn input R)
+  same-stepOn input q l = ap (λ (ks : Bool). step (input .ca) (input .cb) (input .m ks) S q) same-keystreamBit ∙ same-step (input .ca) (input .cb) (input .m (keystreamBit R)) q l
+
+-- ## Runs on them
+
+pub same-run : (g : ℕ → StepInput) (n : ℕ) (S R : Bits) → Same S R → Same (run g n S) (run g n R)
+unfolding run
+same-run g zero S R h = h
+same-run g (suc n) S R h = same-stepOn (run g n S) (run g n R) (same-run g n S R h) (g n)
+
+module _ (S R : Bits) (h : Same S R) where
+  pub same-through : (stretch : Stretch) → Same (through stretch S) (through stretch R)
+  unfolding through
+  same-through stretch = same-run (inputs stretch) (stretch .steps) S R h
+
+  pub same-keystream : (stretch : Stretch) (j : ℕ) → keystream stretch S j ≡ keystream stretch R j
+  unfolding keystream
+  same-keystream stretch j = same-keystreamBit (run (inputs stretch) j S) (run (inputs stretch) j R) (same-run (inputs stretch) j S R h)
+
+  pub same-textOut : (opening : Bool) (piece : List ℕ) → textOut opening piece S ≡ textOut opening piece R
+  unfolding textOut
+  same-textOut opening piece = simp (same-keystream (textPiece opening piece))
+
+  pub same-tagOf : tagOf S ≡ tagOf R
+  unfolding tagOf
+  same-tagOf = simp (same-keystream final)
