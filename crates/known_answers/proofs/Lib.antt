@@ -1,0 +1,3 @@
+pub mod StepNumbers
+pub mod Messages
+pub mod Answers

@@ -1,0 +1,45 @@
+-- Published answers of ACORN-128 version 3, and what it is for the paper's definitions to give them.
+use mathlib.Core.Path.{_≡_}
+use mathlib.Core.List.{List, [], _∷_}
+use Prim.Native.Nat.{ℕ}
+use lib.ListN.{replicate}
+use Rattle.acorn_model.specs.Paper.{ciphertext, tag}
+
+pub record KnownAnswer : Type 0 where
+  pub key : List ℕ
+  pub nonce : List ℕ
+  pub «data» : List ℕ
+  pub text : List ℕ
+  pub cipher : List ℕ
+  pub tag : List ℕ
+
+abbrev pub Given : KnownAnswer → Type 0
+Given a = (ciphertext (a .key) (a .nonce) (a .«data») (a .text) ≡ a .cipher) × (tag (a .key) (a .nonce) (a .«data») (a .text) ≡ a .tag)
+
+abbrev pub AllGiven : List KnownAnswer → Type 0
+AllGiven [] = Unit {0}
+AllGiven (a ∷ others) = Given a × AllGiven others
+
+abbrev pub sixteenZeros : List ℕ
+sixteenZeros = replicate 16 0
+
+-- answers of the designer's reference code, as published: one byte of text, and one byte of data
+abbrev pub published : List KnownAnswer
+published =
+    record {
+      key = sixteenZeros;
+      nonce = sixteenZeros;
+      «data» = [];
+      text = 0x01 ∷ [];
+      cipher = 0x2b ∷ [];
+      tag = 0x4b ∷ 0x60 ∷ 0x64 ∷ 0x0e ∷ 0x26 ∷ 0xf0 ∷ 0xa9 ∷ 0x9d ∷ 0xd0 ∷ 0x1f ∷ 0x93 ∷ 0xbf ∷ 0x63 ∷ 0x49 ∷ 0x97 ∷ 0xcb ∷ [];
+    }
+    ∷ record {
+      key = sixteenZeros;
+      nonce = sixteenZeros;
+      «data» = 0x01 ∷ [];
+      text = [];
+      cipher = [];
+      tag = 0x98 ∷ 0x2e ∷ 0xf7 ∷ 0xd1 ∷ 0xbb ∷ 0xa7 ∷ 0xf8 ∷ 0x9a ∷ 0x15 ∷ 0x75 ∷ 0x29 ∷ 0x7a ∷ 0x09 ∷ 0x5c ∷ 0xd7 ∷ 0xf2 ∷ [];
+    }
+    ∷ []
