@@ -1,2 +1,7 @@
+pub mod Widths
+pub mod BitByBit
+pub mod Ranges
+pub mod Inverses
+pub mod Tickets
 pub mod Cases
 pub mod Listing

@@ -1,0 +1,70 @@
+-- Ranges and rules as facts on numbers, and strings of bytes as values that fit.
+use Prim.Native.Nat.{ℕ, zero, suc, _≤_, _<_, _^_}
+use mathlib.Core.Path.{_≡_, refl, sym, ap, _∙_}
+use mathlib.Core.Bool.{Bool, true, false, _&&_, false≢true}
+use mathlib.Core.List.{List, [], _∷_}
+use native.Mathlib.Omega.{arith}
+use lib.Dec.{leb}
+use lib.ListN.{length, length-replicate}
+use borrow.Author.Tests.{leb-true}
+use Rattle.acorn_model.specs.Bits.{AreBytes}
+use Rattle.tape_model.specs.Format.{Field, _bits_to_, widths, inRange, inRanges, join, cut, Fit, byteWidths, pack}
+use Rattle.tape_model.proofs.Widths.{cut-fit}
+
+pub both : (a b : Bool) → (a && b) ≡ true → (a ≡ true) × (b ≡ true)
+both true b h = (refl, h)
+both false b h = absurd (false≢true h)
+
+-- ## Ranges
+
+abbrev pub InRange : Field → ℕ → Type 0
+InRange (width bits low to high) v = (low ≤ v) × (v ≤ high)
+
+abbrev pub InRanges : List Field → List ℕ → Type 0
+InRanges [] [] = Unit {0}
+InRanges [] (v ∷ vs) = ⊥
+InRanges (f ∷ fs) [] = ⊥
+InRanges (f ∷ fs) (v ∷ vs) = InRange f v × InRanges fs vs
+
+in-range : (f : Field) (v : ℕ) → inRange f v ≡ true → InRange f v
+in-range (width bits low to high) v h = let p = both (leb low v) (leb v high) h in (leb-true _ _ (p .0), leb-true _ _ (p .1))
+
+pub in-ranges : (fs : List Field) (vs : List ℕ) → inRanges fs vs ≡ true → InRanges fs vs
+in-ranges [] [] h = tt
+in-ranges [] (v ∷ vs) h = absurd (false≢true h)
+in-ranges (f ∷ fs) [] h = absurd (false≢true h)
+in-ranges (f ∷ fs) (v ∷ vs) h = let p = both (inRange f v) (inRanges fs vs) h in (in-range f v (p .0), in-ranges fs vs (p .1))
+
+-- each field has the bits for its highest value
+abbrev pub Roomy : List Field → Type 0
+Roomy [] = Unit {0}
+Roomy ((width bits low to high) ∷ fs) = (high < 2 ^ width) × Roomy fs
+
+pub ranges-fit : (fs : List Field) (vs : List ℕ) → Roomy fs → InRanges fs vs → Fit (widths fs) vs
+ranges-fit [] [] r h = tt
+ranges-fit [] (v ∷ vs) r h = absurd h
+ranges-fit (f ∷ fs) [] r h = absurd h
+ranges-fit ((width bits low to high) ∷ fs) (v ∷ vs) r h = (omega arith, ranges-fit fs vs (r .1) (h .1))
+
+-- ## Byte strings
+
+pub bytes-fit : (s : List ℕ) → AreBytes s → Fit (byteWidths (length s)) s
+bytes-fit [] f = tt
+bytes-fit (x ∷ s) f = (f 0, bytes-fit s (λ p. f (suc p)))
+
+fit-bytes : (n : ℕ) (s : List ℕ) → Fit (byteWidths n) s → AreBytes s
+fit-bytes zero [] f p = omega arith
+fit-bytes zero (x ∷ s) f p = absurd f
+fit-bytes (suc n) [] f p = absurd f
+fit-bytes (suc n) (x ∷ s) f zero = f .0
+fit-bytes (suc n) (x ∷ s) f (suc p) = fit-bytes n s (f .1) p
+
+pub pack-bytes : (ws : List ℕ) (n : ℕ) (vs : List ℕ) → AreBytes (pack ws n vs)
+pack-bytes ws n vs = fit-bytes n (pack ws n vs) (cut-fit (byteWidths n) (join ws vs))
+
+length-cut : (ws : List ℕ) (n : ℕ) → length (cut ws n) ≡ length ws
+length-cut [] n = refl
+length-cut (w ∷ ws) n = ap suc (length-cut ws n)
+
+pub pack-length : (ws : List ℕ) (n : ℕ) (vs : List ℕ) → length (pack ws n vs) ≡ n
+pack-length ws n vs = length-cut (byteWidths n) (join ws vs) ∙ length-replicate n 8

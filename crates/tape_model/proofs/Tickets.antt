@@ -1,0 +1,89 @@
+-- Tickets and heads: packing and unpacking undo each other, what is packed is so many bytes, and what the rules say as facts on numbers.
+use Prim.Native.Nat.{ℕ, _≤_, _<_}
+use mathlib.Core.Path.{_≡_, refl, sym, ap}
+use mathlib.Core.Bool.{Bool, true, _&&_}
+use mathlib.Core.List.{List, [], _∷_}
+use native.Mathlib.Omega.{arith}
+use lib.Dec.{leb, ltb}
+use lib.ListN.{length, getD}
+use borrow.Author.Tests.{leb-true, ltb-true}
+use Rattle.acorn_model.specs.Bits.{AreBytes}
+use Rattle.tape_model.specs.declared.Ticket.{Ticket}
+use Rattle.tape_model.specs.declared.Head.{Head}
+use Rattle.tape_model.specs.Format.{widths, inRanges, cut}
+use Rattle.tape_model.specs.Ticket.{form1, ticketLength, ticketValues, ticketOf, ordered, ticketRule, packTicket, unpackTicket, headFormat, headLength, headValues, headOf, headRule, packHead, unpackHead}
+use Rattle.tape_model.specs.Laws.{Inverse}
+use Rattle.tape_model.proofs.Ranges.{both, InRanges, in-ranges, pack-bytes}
+use Rattle.tape_model.proofs.Inverses.{Laid, inverse}
+
+-- ## The rules
+
+pub in-order : (t : Ticket) → ordered t ≡ true → (t .loaded ≤ t .tipped) × (t .tare < t .gross)
+unfolding ordered
+in-order t h =
+    let p = both (leb (t .loaded) (t .tipped)) (ltb (t .tare) (t .gross)) h in
+    (leb-true _ _ (p .0), ltb-true _ _ (p .1))
+
+pub ticket-rule : (t : Ticket) → ticketRule t ≡ true → InRanges form1 (ticketValues t) × (t .loaded ≤ t .tipped) × (t .tare < t .gross)
+unfolding ticketRule
+ticket-rule t h =
+    let p = both (inRanges form1 (ticketValues t)) (ordered t) h in
+    let o = in-order t (p .1) in
+    (in-ranges form1 (ticketValues t) (p .0), o .0, o .1)
+
+pub head-rule : (h : Head) → headRule h ≡ true → InRanges headFormat (headValues h)
+unfolding headRule
+head-rule h e = in-ranges headFormat (headValues h) e
+
+-- ## There and back
+
+abbrev ticketTest : List ℕ → Bool
+ticketTest vs = inRanges form1 vs && ordered (ticketOf vs)
+
+-- in range, the spare bits are zeros, so the ticket holds all that was cut
+spare-zero : (n : ℕ) → InRanges form1 (cut (widths form1) n) → ticketValues (ticketOf (cut (widths form1) n)) ≡ cut (widths form1) n
+spare-zero n r =
+    let z : getD (cut (widths form1) n) 9 0 ≡ 0 = omega arith in
+    rw z
+
+ranges-of : (vs : List ℕ) → ticketTest vs ≡ true → inRanges form1 vs ≡ true
+ranges-of vs h = both (inRanges form1 vs) (ordered (ticketOf vs)) h .0
+
+ticket-laid : Laid form1 ticketLength 8 ticketTest ticketValues ticketOf
+ticket-laid =
+    record {
+      ranges = ranges-of;
+      roomy = omega arith;
+      whole = refl;
+      back = λ t. refl;
+      forth = λ n h. spare-zero n (in-ranges form1 (cut (widths form1) n) (ranges-of (cut (widths form1) n) h));
+    }
+
+pub ticket-inverse : Inverse ticketRule packTicket unpackTicket
+unfolding ticketRule packTicket unpackTicket
+ticket-inverse = inverse form1 ticketLength 8 ticketTest ticketValues ticketOf ticket-laid
+
+head-laid : Laid headFormat headLength 3 (inRanges headFormat) headValues headOf
+head-laid = record { ranges = λ vs h. h; roomy = omega arith; whole = refl; back = λ h. refl; forth = λ n h. refl }
+
+pub head-inverse : Inverse headRule packHead unpackHead
+unfolding headRule packHead unpackHead
+head-inverse = inverse headFormat headLength 3 (inRanges headFormat) headValues headOf head-laid
+
+-- ## Sizes
+
+pub ticket-length : (t : Ticket) → length (packTicket t) ≡ ticketLength
+unfolding packTicket
+ticket-length t = refl
+
+pub ticket-bytes : (t : Ticket) → AreBytes (packTicket t)
+unfolding packTicket
+ticket-bytes t = pack-bytes (widths form1) ticketLength (ticketValues t)
+
+pub head-length : (h : Head) → length (packHead h) ≡ headLength
+unfolding packHead
+head-length h = refl
+
+pub head-bytes : (h : Head) → AreBytes (packHead h)
+unfolding packHead
+head-bytes h = pack-bytes (widths headFormat) headLength (headValues h)
