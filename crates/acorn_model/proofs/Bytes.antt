@@ -62,6 +62,11 @@ bytes-are-bytes zero b p = omega arith
 bytes-are-bytes (suc n) b zero = number-lt 8 b
 bytes-are-bytes (suc n) b (suc p) = bytes-are-bytes n (λ i. b (8 + i)) p
 
+pub append-are-bytes : (l k : List ℕ) → AreBytes l → AreBytes k → AreBytes (l ++ k)
+append-are-bytes [] k h g = g
+append-are-bytes (x ∷ l) k h g zero = h 0
+append-are-bytes (x ∷ l) k h g (suc p) = append-are-bytes l k (λ q. h (suc q)) g p
+
 pub take-are-bytes : (n : ℕ) (l : List ℕ) → AreBytes l → AreBytes (take n l)
 take-are-bytes zero l h p = omega arith
 take-are-bytes (suc n) [] h p = omega arith

@@ -63,3 +63,14 @@ module _ (key nonce «data» : List ℕ) where
   pub newTag-are-bytes : (cipher : List ℕ) → AreBytes (newTag key nonce «data» cipher)
   unfolding newTag
   newTag-are-bytes cipher = bytes-are-bytes tagLength (tagBit true key nonce «data» cipher)
+
+  -- ## Sealed bytes
+
+  pub sealed-length : (text : List ℕ) → length (sealed key nonce «data» text) ≡ length text + tagLength
+  unfolding sealed
+  sealed-length text =
+      length-append (ciphertext key nonce «data» text) (tag key nonce «data» text) ∙ ap₂ _+_ (ciphertext-length text) (tag-length text)
+
+  pub sealed-are-bytes : (text : List ℕ) → AreBytes (sealed key nonce «data» text)
+  unfolding sealed
+  sealed-are-bytes text = append-are-bytes (ciphertext key nonce «data» text) (tag key nonce «data» text) (ciphertext-are-bytes text) (tag-are-bytes text)

@@ -25,7 +25,7 @@ module _ (key nonce «data» : List ℕ) where
   pub opening-exact : OpeningExact key nonce «data»
   opening-exact =
       record {
-        undone = decrypted-ciphertext key nonce «data»;
+        unpack-pack = decrypted-ciphertext key nonce «data»;
         with-tag = opens-with-tag key nonce «data»;
         exactly = opens-exactly key nonce «data»;
         whole = opened-exactly key nonce «data»;

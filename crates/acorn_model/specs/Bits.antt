@@ -24,7 +24,7 @@ a if test else b = cond test a b
 unfoldable pub bit : ℕ → Bits
 bit x j = eqb (x / 2 ^ j % 2) 1
 
--- bit 8k + j of a string is the bit of weight 2 ^ j of byte k
+-- the cipher's bits of a string: 8 to a byte, from the byte's lowest bit up
 unfoldable pub bitsIn : List ℕ → Bits
 bitsIn string i = bit (getD string (i / 8) 0) (i % 8)
 

@@ -14,21 +14,21 @@ use Rattle.acorn_model.specs.declared.Written.the-variants.{Refused as N
 -- A refusal number, or what the call did.
 pub data Reply (A : Type 0) : Type 0 where
   refused : ℕ → Reply A
-  did : A → Reply A
+  done : A → Reply A
 
 -- What a session's or a writer's call did: the bytes that it wrote, and the steps run since its session was fresh.
 pub record Work : Type 0 where
   pub bytes : ℕ
   pub steps : ℕ
 
--- the number and the values of each case of the answers in code
-unfoldable pub workIn : Answer → Reply Work
-workIn (Refused n) = refused n
-workIn (Done bytes steps) = did (record { bytes = bytes; steps = steps })
+-- document 01's number and values for each case of the answers in code
+unfoldable pub answerReply : Answer → Reply Work
+answerReply (Refused n) = refused n
+answerReply (Done bytes steps) = done (record { bytes = bytes; steps = steps })
 
-unfoldable pub bytesIn : Written → Reply ℕ
-bytesIn (NotWritten n) = refused n
-bytesIn (WrittenBytes n) = did n
+unfoldable pub writtenReply : Written → Reply ℕ
+writtenReply (NotWritten n) = refused n
+writtenReply (WrittenBytes n) = done n
 
 -- ## Refusals
 
@@ -44,8 +44,8 @@ unlessRefused (suc n) work refusal = refusal
 -- ## Outputs
 
 -- what is written stands at the start of the output, and nothing changes behind it
-unfoldable pub over : List ℕ → List ℕ → List ℕ
-over written out = written ++ drop (length written) out
+unfoldable pub writtenOver : List ℕ → List ℕ → List ℕ
+writtenOver written out = written ++ drop (length written) out
 
 unfoldable pub sameBytes : List ℕ → List ℕ → Bool
 sameBytes [] [] = true

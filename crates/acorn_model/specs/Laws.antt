@@ -7,7 +7,7 @@ use Prim.Native.Nat.{ℕ, _*_}
 use lib.ListN.{length}
 use Rattle.acorn_model.specs.Bits.{Bits, AreBytes, bitsIn, bytes}
 use Rattle.acorn_model.specs.Paper.{Encrypts, ciphertext, tag, decrypted, newTag, Opens}
-use Rattle.acorn_model.specs.Stretches.{tagLength, textOut, tagOf, zeros, through, start, dataEnd, textEnd, afterData, beforeFinal, dataPieces, textPieces, textPiecesOut, joined}
+use Rattle.acorn_model.specs.Stretches.{tagLength, textOut, tagOf, through, textEnd, afterData, beforeFinal, textPieces, textPiecesOut, joined, afterDataPieces}
 use Rattle.acorn_model.specs.Message.{sealed, tagMatches, opened}
 
 module _ (key nonce «data» : List ℕ) where
@@ -28,7 +28,7 @@ module _ (key nonce «data» : List ℕ) where
 
   -- Opening undoes sealing, and opens exactly when the tag is the one.
   pub record OpeningExact : Type 0 where
-    pub undone : (text : List ℕ) → AreBytes text → decrypted key nonce «data» (ciphertext key nonce «data» text) ≡ text
+    pub unpack-pack : (text : List ℕ) → AreBytes text → decrypted key nonce «data» (ciphertext key nonce «data» text) ≡ text
     pub with-tag : (text t : List ℕ) → AreBytes text
         → Opens key nonce «data» (ciphertext key nonce «data» text) t text ↔ (t ≡ tag key nonce «data» text)
     pub exactly : (cipher t text : List ℕ) → AreBytes cipher → AreBytes text
@@ -46,8 +46,8 @@ module _ (key nonce «data» : List ℕ) where
         × (tagOf (beforeFinal true cipher (afterData key nonce «data»)) ≡ newTag key nonce «data» cipher)
     -- and so they do wherever data and text are cut into pieces
     pub sealing-pieces : (ds ts : List (List ℕ)) → joined ds ≡ «data»
-        → (textPiecesOut false ts (through dataEnd (dataPieces ds (through (start key nonce) zeros))) ≡ ciphertext key nonce «data» (joined ts))
-        × (tagOf (through textEnd (textPieces false ts (through dataEnd (dataPieces ds (through (start key nonce) zeros))))) ≡ tag key nonce «data» (joined ts))
+        → (textPiecesOut false ts (afterDataPieces key nonce ds) ≡ ciphertext key nonce «data» (joined ts))
+        × (tagOf (through textEnd (textPieces false ts (afterDataPieces key nonce ds))) ≡ tag key nonce «data» (joined ts))
     pub opening-pieces : (ds ts : List (List ℕ)) → joined ds ≡ «data»
-        → (textPiecesOut true ts (through dataEnd (dataPieces ds (through (start key nonce) zeros))) ≡ decrypted key nonce «data» (joined ts))
-        × (tagOf (through textEnd (textPieces true ts (through dataEnd (dataPieces ds (through (start key nonce) zeros))))) ≡ newTag key nonce «data» (joined ts))
+        → (textPiecesOut true ts (afterDataPieces key nonce ds) ≡ decrypted key nonce «data» (joined ts))
+        × (tagOf (through textEnd (textPieces true ts (afterDataPieces key nonce ds))) ≡ newTag key nonce «data» (joined ts))

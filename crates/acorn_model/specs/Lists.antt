@@ -1,4 +1,4 @@
--- Document 01 on lists of calls: what a list amounts to, read off its calls and answers alone.
+-- Document 01 on lists of calls: what a list amounts to, read off its calls, their answers and their outputs alone.
 use mathlib.Core.Bool.{Bool, true, false}
 use mathlib.Core.List.{List, [], _∷_, _++_}
 use mathlib.Core.Path.{_≡_}
@@ -7,9 +7,10 @@ use lib.Dec.{eqb}
 use lib.ListN.{take}
 use Rattle.acorn_model.specs.declared.Kind.{Kind}
 use Rattle.acorn_model.specs.declared.Kind.the-variants.{Sealing, Checking}
+use Rattle.acorn_model.specs.declared.Phase.the-variants.{Closed}
 use Rattle.acorn_model.specs.Bits.{_if_else_}
-use Rattle.acorn_model.specs.Calls.{Reply, refused, did, Work, Entry}
-use Rattle.acorn_model.specs.Machine.{Call, begin, dataCall, sealText, checkText, sealClose, checkClose}
+use Rattle.acorn_model.specs.Calls.{Reply, refused, done, Work, Entry}
+use Rattle.acorn_model.specs.Machine.{Machine, Call, begin, dataCall, sealText, checkText, sealClose, checkClose}
 
 -- ## What one call brings, by its arguments
 
@@ -18,64 +19,64 @@ pub record Arguments : Type 0 where
   pub key : List ℕ
   pub nonce : List ℕ
 
-unfoldable pub beginIn : Call → List Arguments
-beginIn (begin key nonce) = record { key = key; nonce = nonce } ∷ []
-beginIn (dataCall piece) = []
-beginIn (sealText piece out) = []
-beginIn (checkText piece) = []
-beginIn (sealClose out) = []
-beginIn (checkClose tag) = []
+unfoldable pub beginOf : Call → List Arguments
+beginOf (begin key nonce) = record { key = key; nonce = nonce } ∷ []
+beginOf (dataCall piece) = []
+beginOf (sealText piece out) = []
+beginOf (checkText piece) = []
+beginOf (sealClose out) = []
+beginOf (checkClose tag) = []
 
-unfoldable pub dataIn : Call → List ℕ
-dataIn (begin key nonce) = []
-dataIn (dataCall piece) = piece
-dataIn (sealText piece out) = []
-dataIn (checkText piece) = []
-dataIn (sealClose out) = []
-dataIn (checkClose tag) = []
+unfoldable pub dataOf : Call → List ℕ
+dataOf (begin key nonce) = []
+dataOf (dataCall piece) = piece
+dataOf (sealText piece out) = []
+dataOf (checkText piece) = []
+dataOf (sealClose out) = []
+dataOf (checkClose tag) = []
 
--- in checking, the text taken is ciphertext
-unfoldable pub textIn : Call → List ℕ
-textIn (begin key nonce) = []
-textIn (dataCall piece) = []
-textIn (sealText piece out) = piece
-textIn (checkText piece) = piece
-textIn (sealClose out) = []
-textIn (checkClose tag) = []
+-- (ciphertext, where it is taken by a checking session)
+unfoldable pub textOf : Call → List ℕ
+textOf (begin key nonce) = []
+textOf (dataCall piece) = []
+textOf (sealText piece out) = piece
+textOf (checkText piece) = piece
+textOf (sealClose out) = []
+textOf (checkClose tag) = []
 
-unfoldable pub tagIn : Call → List (List ℕ)
-tagIn (begin key nonce) = []
-tagIn (dataCall piece) = []
-tagIn (sealText piece out) = []
-tagIn (checkText piece) = []
-tagIn (sealClose out) = []
-tagIn (checkClose tag) = tag ∷ []
+unfoldable pub tagsOf : Call → List (List ℕ)
+tagsOf (begin key nonce) = []
+tagsOf (dataCall piece) = []
+tagsOf (sealText piece out) = []
+tagsOf (checkText piece) = []
+tagsOf (sealClose out) = []
+tagsOf (checkClose tag) = tag ∷ []
 
 -- ## What of it counts, by the answer
 
 -- of an accepted call
 abbrev pub ifAccepted : {A : Type 0} → Reply Work → List A → List A
 ifAccepted (refused n) l = []
-ifAccepted (did w) l = l
+ifAccepted (done w) l = l
 
 -- of a call that was accepted, or that closed its session with 7
 abbrev pub ifAcceptedOr7 : {A : Type 0} → Reply Work → List A → List A
 ifAcceptedOr7 (refused n) l = l if eqb n 7 else []
-ifAcceptedOr7 (did w) l = l
+ifAcceptedOr7 (done w) l = l
 
 -- the bytes that a call wrote, of its output after it
-abbrev pub writtenIn : Reply Work → List ℕ → List ℕ
-writtenIn (refused n) out = []
-writtenIn (did w) out = take (w .bytes) out
+abbrev pub writtenBy : Reply Work → List ℕ → List ℕ
+writtenBy (refused n) out = []
+writtenBy (done w) out = take (w .bytes) out
 
 -- good or 7: the answer of a checking close that closed its session
-unfoldable pub verdictIn : Call → Reply Work → List (Reply Work)
-verdictIn (begin key nonce) a = []
-verdictIn (dataCall piece) a = []
-verdictIn (sealText piece out) a = []
-verdictIn (checkText piece) a = []
-verdictIn (sealClose out) a = []
-verdictIn (checkClose tag) a = ifAcceptedOr7 a (a ∷ [])
+unfoldable pub verdictOf : Call → Reply Work → List (Reply Work)
+verdictOf (begin key nonce) a = []
+verdictOf (dataCall piece) a = []
+verdictOf (sealText piece out) a = []
+verdictOf (checkText piece) a = []
+verdictOf (sealClose out) a = []
+verdictOf (checkClose tag) a = ifAcceptedOr7 a (a ∷ [])
 
 -- ## What a list amounts to
 
@@ -96,16 +97,16 @@ nothing = record { begins = []; «data» = []; text = []; written = []; tags = [
 unfoldable pub logged : Entry Call → Log
 logged e =
     record {
-      begins = ifAccepted (e .answer) (beginIn (e .call));
-      «data» = ifAccepted (e .answer) (dataIn (e .call));
-      text = ifAccepted (e .answer) (textIn (e .call));
-      written = writtenIn (e .answer) (e .out);
-      tags = ifAcceptedOr7 (e .answer) (tagIn (e .call));
-      verdicts = verdictIn (e .call) (e .answer);
+      begins = ifAccepted (e .answer) (beginOf (e .call));
+      «data» = ifAccepted (e .answer) (dataOf (e .call));
+      text = ifAccepted (e .answer) (textOf (e .call));
+      written = writtenBy (e .answer) (e .out);
+      tags = ifAcceptedOr7 (e .answer) (tagsOf (e .call));
+      verdicts = verdictOf (e .call) (e .answer);
     }
 
-unfoldable pub followedBy : Log → Log → Log
-followedBy a b =
+unfoldable pub joinLogs : Log → Log → Log
+joinLogs a b =
     record {
       begins = a .begins ++ b .begins;
       «data» = a .«data» ++ b .«data»;
@@ -117,13 +118,20 @@ followedBy a b =
 
 unfoldable pub logOf : List (Entry Call) → Log
 logOf [] = nothing
-logOf (e ∷ es) = followedBy (logged e) (logOf es)
+logOf (e ∷ es) = joinLogs (logged e) (logOf es)
 
--- two lists of one kind are alike: in begin, data and text and, checking, in the tag given
+-- ## Ended lists
+
+-- a session has ended when its phase is closed
+abbrev pub Ended : Machine → Type 0
+Ended m = m .phase ≡ Closed
+
+-- the tags count in checking only
 abbrev pub SameTags : Kind → Log → Log → Type 0
 SameTags Sealing a b = Unit {0}
 SameTags Checking a b = a .tags ≡ b .tags
 
+-- two lists of one kind are alike in begin, data and text and, checking, in the tag given
 pub record Alike (kind : Kind) (a b : Log) : Type 0 where
   pub begins : a .begins ≡ b .begins
   pub «data» : a .«data» ≡ b .«data»

@@ -11,7 +11,7 @@ use Rattle.acorn_model.specs.declared.Phase.{Phase}
 use Rattle.acorn_model.specs.declared.Phase.the-variants.{Fresh, Data, Text, Closed}
 use Rattle.acorn_model.specs.Bits.{Bits, _if_else_}
 use Rattle.acorn_model.specs.Stretches.{Stretch, through, zeros, start, dataPiece, dataEnd, textPiece, textEnd, final, textOut, tagOf, tagLength}
-use Rattle.acorn_model.specs.Calls.{Reply, refused, did, Work, accepted, unlessRefused, over, sameBytes, Outcome, refusedWith, entries, handedOn}
+use Rattle.acorn_model.specs.Calls.{Reply, refused, done, Work, accepted, unlessRefused, writtenOver, sameBytes, Outcome, refusedWith}
 
 -- ## What it holds
 
@@ -79,7 +79,7 @@ isText Data = false
 isText Text = true
 isText Closed = false
 
--- 1: the phase does not allow the call, or it is meant for the other kind
+-- 1: whether phase and kind allow the call
 unfoldable pub phaseAllows : Kind → Phase → Call → Bool
 phaseAllows kind phase (begin key nonce) = isFresh phase
 phaseAllows kind phase (dataCall piece) = isData phase
@@ -88,13 +88,19 @@ phaseAllows kind phase (checkText piece) = isChecking kind && (isData phase || i
 phaseAllows kind phase (sealClose out) = isSealing kind && (isData phase || isText phase)
 phaseAllows kind phase (checkClose tag) = isChecking kind && (isData phase || isText phase)
 
--- the bytes of a key and of a nonce
+-- the bytes of a key, and those of a nonce
 abbrev pub keyLength : ℕ
 keyLength = 16
 
--- 2: key, nonce or tag has its size
+abbrev pub nonceLength : ℕ
+nonceLength = 16
+
+abbrev pub keyAndNonceRight : List ℕ → List ℕ → Bool
+keyAndNonceRight key nonce = eqb (length key) keyLength && eqb (length nonce) nonceLength
+
+-- 2: whether key, nonce and tag have their sizes
 unfoldable pub sizesRight : Call → Bool
-sizesRight (begin key nonce) = eqb (length key) keyLength && eqb (length nonce) keyLength
+sizesRight (begin key nonce) = keyAndNonceRight key nonce
 sizesRight (dataCall piece) = true
 sizesRight (sealText piece out) = true
 sizesRight (checkText piece) = true
@@ -113,7 +119,7 @@ overLimit counts (checkText piece) = ltb byteLimit (counts .textBytes + length p
 overLimit counts (sealClose out) = false
 overLimit counts (checkClose tag) = false
 
--- 6: the output is shorter than what is to be written
+-- 6: whether the output is too short for what the call would write
 unfoldable pub outputShort : Call → Bool
 outputShort (begin key nonce) = false
 outputShort (dataCall piece) = false
@@ -192,11 +198,11 @@ closed m = enter Closed (cleared (runThrough final (textEnded m)))
 
 -- the answer to an accepted call that wrote so many bytes
 unfoldable pub answered : ℕ → Machine → Reply Work
-answered n m = did (record { bytes = n; steps = m .counts .steps })
+answered n m = done (record { bytes = n; steps = m .counts .steps })
 
 -- an accepted call that led to the machine m and wrote these bytes
 unfoldable pub wrote : List ℕ → Machine → List ℕ → Outcome Machine Work
-wrote written m out = record { next = m; answer = answered (length written) m; out = over written out }
+wrote written m out = record { next = m; answer = answered (length written) m; out = writtenOver written out }
 
 -- good, or 7
 unfoldable pub verdict : Bool → Machine → Reply Work
@@ -211,7 +217,7 @@ work m (checkText piece) = wrote [] (textTaken piece m) []
 work m (sealClose out) = wrote (tagOf (textEnded m .state)) (closed m) out
 work m (checkClose tag) = record { next = closed m; answer = verdict (sameBytes tag (tagOf (textEnded m .state))) (closed m); out = [] }
 
--- ## One call, and a list of calls
+-- ## One call
 
 unfoldable pub call : Machine → Call → Outcome Machine Work
 call m c = unlessRefused (refusal m c) (work m c) (refusedWith (refusal m c) m (outputOf c))

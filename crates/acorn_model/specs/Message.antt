@@ -1,14 +1,14 @@
 -- Whole sealing and whole opening (document 01, "The one-step machine and the session", its last paragraph), by the paper's ciphertext and tag.
-use mathlib.Core.Bool.{Bool, not, _&&_, _||_}
+use mathlib.Core.Bool.{Bool, not, _||_}
 use mathlib.Core.List.{List, _++_}
 use Prim.Native.Nat.{ℕ, _+_, _-_}
-use lib.Dec.{eqb, ltb}
+use lib.Dec.{ltb}
 use lib.ListN.{length, take, drop}
 use Rattle.acorn_model.specs.Bits.{_if_else_}
 use Rattle.acorn_model.specs.Stretches.{tagLength}
 use Rattle.acorn_model.specs.Paper.{ciphertext, tag, decrypted, newTag}
-use Rattle.acorn_model.specs.Calls.{Reply, refused, did, accepted, unlessRefused, over, sameBytes}
-use Rattle.acorn_model.specs.Machine.{keyLength, byteLimit}
+use Rattle.acorn_model.specs.Calls.{Reply, refused, done, accepted, unlessRefused, writtenOver, sameBytes}
+use Rattle.acorn_model.specs.Machine.{keyAndNonceRight, byteLimit}
 
 -- What a call on a whole message comes to: its answer, and its output after it.
 pub record Result (A : Type 0) : Type 0 where
@@ -17,7 +17,7 @@ pub record Result (A : Type 0) : Type 0 where
 
 -- by the number that applies: these bytes are written, with this answer; or nothing is, and the number is the answer
 unfoldable pub resultOf : {A : Type 0} → ℕ → A → List ℕ → List ℕ → Result A
-resultOf n answer written out = unlessRefused n (record { answer = did answer; out = over written out }) (record { answer = refused n; out = out })
+resultOf n answer written out = unlessRefused n (record { answer = done answer; out = writtenOver written out }) (record { answer = refused n; out = out })
 
 -- of sealed bytes all are ciphertext but the tag's at the end
 abbrev pub cipherPart : List ℕ → List ℕ
@@ -29,7 +29,7 @@ tagPart sealedBytes = drop (length sealedBytes - tagLength) sealedBytes
 module _ (key nonce «data» : List ℕ) where
   -- 2: a key or nonce of another size; 5: data over the limit
   abbrev pub sizesWrong : Bool
-  sizesWrong = not (eqb (length key) keyLength && eqb (length nonce) keyLength)
+  sizesWrong = not (keyAndNonceRight key nonce)
 
   abbrev pub dataOver : Bool
   dataOver = ltb byteLimit (length «data»)

@@ -48,7 +48,7 @@ keystreamBit S = ksg128 (lfsrUpdate S)
 unfoldable pub feedbackBit : Bool → Bool → Bits → Bool
 feedbackBit ca cb S = fbk128 ca cb (keystreamBit S) (lfsrUpdate S)
 
--- the step: after rules 1 to 3 every bit moves down one place, and the new S292 is f ⊕ m (rule 4)
+-- the step, with rule 4: the bits shift down by one, and f ⊕ m comes in at the top
 unfoldable pub step : Bool → Bool → Bool → Bits → Bits
 step ca cb m S p = (feedbackBit ca cb S ⊕ m) if eqb p 292 else lfsrUpdate S (suc p)
 

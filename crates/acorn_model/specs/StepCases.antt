@@ -1,5 +1,5 @@
--- One step from a state of zeros but for the bits named: how such a case is stated, and a table of cases that fix the order of the six updates of
--- rule 1 (document 01's own cases do not) and the places of maj, ch and ~ in ks and f.
+-- One step from a state of zeros but for the bits named: how such a case is stated, and a table of cases beside document 01's. Those fix one
+-- neighbouring pair of rule 1's updates; these fix the order of all six, that each is made, and the terms of ks and f.
 use mathlib.Core.Path.{_≡_}
 use mathlib.Core.Bool.{Bool, true, false, _||_}
 use mathlib.Core.List.{List, [], _∷_}
@@ -15,9 +15,9 @@ pub data Control : Type 0 where
   either : Control
 
 -- what is looked at: the step's ks, or a bit of the state after it
-pub data Look : Type 0 where
-  ks : Bool → Look
-  _is_ : ℕ → Bool → Look
+pub data Observation : Type 0 where
+  ks : Bool → Observation
+  _is_ : ℕ → Bool → Observation
 
 pub record StepCase : Type 0 where
   -- the places that hold 1 before the step
@@ -25,7 +25,7 @@ pub record StepCase : Type 0 where
   pub m : Bool
   pub ca : Control
   pub cb : Control
-  pub looks : List Look
+  pub expected : List Observation
 
 abbrev pub stateWith : List ℕ → Bits
 stateWith [] p = false
@@ -35,32 +35,53 @@ abbrev pub ForEach : Control → (Bool → Type 0) → Type 0
 ForEach (set b) P = P b
 ForEach either P = P false × P true
 
-abbrev pub Seen : Bool → Bool → Bool → Bits → List Look → Type 0
-Seen ca cb m S [] = Unit {0}
-Seen ca cb m S (ks b ∷ looks) = (keystreamBit S ≡ b) × Seen ca cb m S looks
-Seen ca cb m S ((p is b) ∷ looks) = (step ca cb m S p ≡ b) × Seen ca cb m S looks
+abbrev pub Observed : Bool → Bool → Bool → Bits → List Observation → Type 0
+Observed ca cb m S [] = Unit {0}
+Observed ca cb m S (ks b ∷ expected) = (keystreamBit S ≡ b) × Observed ca cb m S expected
+Observed ca cb m S ((p is b) ∷ expected) = (step ca cb m S p ≡ b) × Observed ca cb m S expected
 
 abbrev pub StepHolds : StepCase → Type 0
-StepHolds c = ForEach (c .ca) (λ ca. ForEach (c .cb) (λ cb. Seen ca cb (c .m) (stateWith (c .ones)) (c .looks)))
+StepHolds c = ForEach (c .ca) (λ ca. ForEach (c .cb) (λ cb. Observed ca cb (c .m) (stateWith (c .ones)) (c .expected)))
 
 abbrev pub AllSteps : List StepCase → Type 0
 AllSteps [] = Unit {0}
 AllSteps (c ∷ cs) = StepHolds c × AllSteps cs
 
 -- a case with m = 0 and both controls open
-abbrev pub stepFrom : List ℕ → List Look → StepCase
-stepFrom ones looks = record { ones = ones; m = false; ca = either; cb = either; looks = looks }
+abbrev pub stepFrom : List ℕ → List Observation → StepCase
+stepFrom ones expected = record { ones = ones; m = false; ca = either; cb = either; expected = expected }
 
 abbrev pub furtherCases : List StepCase
 furtherCases =
-    -- the order of the updates
+    -- the order of the updates: each reads the next one's bit as it was before that
     stepFrom (196 ∷ []) (288 is false ∷ [])
     ∷ stepFrom (160 ∷ []) (229 is false ∷ [])
     ∷ stepFrom (111 ∷ []) (192 is false ∷ [])
     ∷ stepFrom (66 ∷ []) (153 is false ∷ [])
     ∷ stepFrom (0 ∷ []) (106 is false ∷ [])
-    -- maj and ch in ks, maj and ~ in f
+    -- each update is made, from both of its places
+    ∷ stepFrom (235 ∷ []) (288 is true ∷ ks false ∷ [])
+    ∷ stepFrom (230 ∷ []) (288 is true ∷ ks false ∷ [])
+    ∷ stepFrom (196 ∷ []) (229 is true ∷ ks false ∷ [])
+    ∷ stepFrom (193 ∷ []) (229 is true ∷ ks false ∷ [])
+    ∷ stepFrom (160 ∷ []) (192 is true ∷ ks false ∷ [])
+    ∷ stepFrom (154 ∷ []) (192 is true ∷ ks true ∷ [])
+    ∷ stepFrom (111 ∷ []) (153 is true ∷ ks true ∷ [])
+    ∷ stepFrom (107 ∷ []) (153 is true ∷ ks true ∷ [])
+    ∷ stepFrom (66 ∷ []) (106 is true ∷ ks true ∷ [])
+    ∷ stepFrom (61 ∷ []) (106 is true ∷ ks false ∷ 292 is false ∷ [])
+    ∷ stepFrom (23 ∷ []) (60 is true ∷ ks false ∷ 292 is true ∷ [])
+    ∷ stepFrom (0 ∷ []) (60 is true ∷ ks false ∷ 292 is false ∷ [])
+    -- ks: S12, maj and ch
+    ∷ stepFrom (12 ∷ []) (ks true ∷ [])
     ∷ stepFrom (235 ∷ 61 ∷ []) (ks true ∷ [])
+    ∷ stepFrom (235 ∷ 193 ∷ []) (ks true ∷ [])
+    ∷ stepFrom (61 ∷ 193 ∷ []) (ks true ∷ [])
     ∷ stepFrom (230 ∷ 111 ∷ []) (ks false ∷ [])
+    ∷ stepFrom (230 ∷ 66 ∷ []) (ks false ∷ [])
+    -- f: ~ and maj
+    ∷ stepFrom (244 ∷ []) (292 is true ∷ [])
     ∷ stepFrom (244 ∷ 23 ∷ []) (292 is false ∷ [])
+    ∷ stepFrom (244 ∷ 160 ∷ []) (292 is false ∷ [])
+    ∷ record { ones = 23 ∷ 160 ∷ []; m = false; ca = either; cb = set false; expected = 292 is false ∷ [] }
     ∷ []

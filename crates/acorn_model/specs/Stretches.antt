@@ -7,7 +7,7 @@ use lib.ListN.{length}
 use Rattle.acorn_model.specs.Bits.{Bits, _⊕_, _if_else_, bitsIn, bytes}
 use Rattle.acorn_model.specs.Step.{StepInput, run, keystreamBit}
 
--- A row of the table. The message bit of step i is given by that step's own ks.
+-- A row of the table. The message bit of step i is a function of that step's ks, which only the text of an opening reads.
 pub record Stretch : Type 0 where
   pub steps : ℕ
   pub m : ℕ → Bool → Bool
@@ -23,7 +23,7 @@ tagBits = 8 * tagLength
 
 -- ## The rows
 
--- 128 key bits, 128 nonce bits, then key bit (i mod 128) for i = 0 to 1,535, the one at i = 0 inverted
+-- the message bits of start: key, nonce, and then the key's bits round and round, the first of these inverted
 unfoldable pub startBit : List ℕ → List ℕ → Bits
 startBit key nonce i =
     bitsIn key i if ltb i 128 else
@@ -63,13 +63,13 @@ through stretch S = run (inputs stretch) (stretch .steps) S
 unfoldable pub keystream : Stretch → Bits → Bits
 keystream stretch S j = keystreamBit (run (inputs stretch) j S)
 
--- a ciphertext bit is text bit ⊕ ks, and in opening a text bit is ciphertext bit ⊕ ks: what comes out for a piece that goes in
+-- what comes out for a piece of text that goes in, bit by bit its own ⊕ ks: ciphertext in sealing, text in opening
 unfoldable pub textOut : Bool → List ℕ → Bits → List ℕ
 textOut opening piece S = bytes (length piece) (λ j. bitsIn piece j ⊕ keystream (textPiece opening piece) S j)
 
 -- the tag, of the state before final: the last ks bits
 unfoldable pub tagOf : Bits → List ℕ
-tagOf S = bytes tagLength (λ j. keystream final S (768 - tagBits + j))
+tagOf S = bytes tagLength (λ j. keystream final S (final .steps - tagBits + j))
 
 -- ## A message
 
@@ -104,3 +104,7 @@ textPiecesOut opening (piece ∷ pieces) S = textOut opening piece S ++ textPiec
 unfoldable pub joined : List (List ℕ) → List ℕ
 joined [] = []
 joined (piece ∷ pieces) = piece ++ joined pieces
+
+-- the state after the data end, of data in pieces
+abbrev pub afterDataPieces : List ℕ → List ℕ → List (List ℕ) → Bits
+afterDataPieces key nonce pieces = through dataEnd (dataPieces pieces (through (start key nonce) zeros))

@@ -4,7 +4,7 @@ use mathlib.Core.Bool.{Bool, true}
 use mathlib.Core.List.{List, [], _∷_}
 use Rattle.acorn_model.specs.Step.{_⊕=_and_, lfsrUpdate, maj, ch, ksg128, fbk128, keystreamBit, feedbackBit, step}
 use Rattle.acorn_model.proofs.StepCases.{stepHolds, shown-step}
-use Rattle.tape_model.specs.Ticket.{ordered, ticketRule, packTicket, packHead}
+use Rattle.tape_model.specs.Ticket.{ordered, valuesRule, ticketRule, packTicket, packHead}
 use Rattle.tape_model.specs.Cases.{Case, steps, packs, packsHead, valid, Holds, AllHold, cases}
 
 -- what is computed of a case
@@ -29,6 +29,6 @@ shown-all [] h = tt
 shown-all (c ∷ cs) h = (shown c (h .0), shown-all cs (h .1))
 
 pub twelve-cases : AllHold cases
-unfolding step feedbackBit fbk128 keystreamBit ksg128 lfsrUpdate _⊕=_and_ maj ch packTicket packHead ticketRule ordered
+unfolding step feedbackBit fbk128 keystreamBit ksg128 lfsrUpdate _⊕=_and_ maj ch packTicket packHead ticketRule valuesRule ordered
 twelve-cases =
     shown-all cases (refl, (refl, (refl, (refl, (refl, (refl, (refl, (refl, (refl, (refl, (refl, (refl, (refl, tt)))))))))))))

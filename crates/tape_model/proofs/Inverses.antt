@@ -8,7 +8,7 @@ use lib.Dec.{eqb}
 use lib.ListN.{length}
 use borrow.Author.Tests.{eqb-true, eq-eqb}
 use Rattle.acorn_model.specs.Bits.{_if_else_, AreBytes}
-use Rattle.acorn_model.specs.Calls.{Reply, refused, did}
+use Rattle.acorn_model.specs.Calls.{Reply, refused, done}
 use Rattle.tape_model.specs.Format.{Field, widths, inRanges, totalWidth, join, cut, byteWidths, pack, unpack}
 use Rattle.tape_model.specs.Laws.{Inverse}
 use Rattle.tape_model.proofs.Widths.{recut}
@@ -18,10 +18,10 @@ use Rattle.tape_model.proofs.Ranges.{in-ranges, Roomy, ranges-fit, byte
 pub injective : {A : Type 0} {rule : A → Bool} {packed : A → List ℕ} {unpacked : List ℕ → Reply A} → Inverse rule packed unpacked
     → (a b : A) → rule a ≡ true → rule b ≡ true → packed a ≡ packed b → a ≡ b
 injective {A} {rule} {packed} {unpacked} i a b ra rb e =
-    let p : did a ≡ did b = sym (i .undone a ra) ∙ ap unpacked e ∙ i .undone b rb in cc
+    let p : done a ≡ done b = sym (i .unpack-pack a ra) ∙ ap unpacked e ∙ i .unpack-pack b rb in cc
 
 -- what is unpacked passed both tests
-passed : {A : Type 0} (n : ℕ) (b c : Bool) (x y : A) → (refused 2 if not b else refused n if not c else did x) ≡ did y
+passed : {A : Type 0} (n : ℕ) (b c : Bool) (x y : A) → (refused 2 if not b else refused n if not c else done x) ≡ done y
     → (b ≡ true) × (c ≡ true) × (x ≡ y)
 passed n true true x y e = (refl, refl, cc)
 passed n true false x y e = let z : _≡_ {A = ℕ} 0 1 = cc in absurd (omega arith)
@@ -41,11 +41,11 @@ module _ {A : Type 0} (fields : List Field) (size number : ℕ) (test : List ℕ
     pub forth : (n : ℕ) → test (cut ws n) ≡ true → valuesOf (ofValues (cut ws n)) ≡ cut ws n
 
   abbrev answer : ℕ → List ℕ → Reply A
-  answer n vs = refused 2 if not (eqb n size) else refused number if not (test vs) else did (ofValues vs)
+  answer n vs = refused 2 if not (eqb n size) else refused number if not (test vs) else done (ofValues vs)
 
   module _ (l : Laid) where
-    undone : (a : A) → test (valuesOf a) ≡ true → answer (length (pack ws size (valuesOf a))) (unpack ws (pack ws size (valuesOf a))) ≡ did a
-    undone a h =
+    unpack-pack : (a : A) → test (valuesOf a) ≡ true → answer (length (pack ws size (valuesOf a))) (unpack ws (pack ws size (valuesOf a))) ≡ done a
+    unpack-pack a h =
         let s = pack ws size (valuesOf a) in
         let n : length s ≡ size = pack-length ws size (valuesOf a) in
         let v : unpack ws s ≡ valuesOf a =
@@ -53,8 +53,8 @@ module _ {A : Type 0} (fields : List Field) (size number : ℕ) (test : List ℕ
         ∙ recut ws (byteWidths size) (valuesOf a) (l .whole) (ranges-fit fields _ (l .roomy) (in-ranges fields _ (l .ranges _ h))) in
         ap₂ answer n v ∙ rw (eq-eqb size size refl, h, l .back a)
 
-    redone : (s : List ℕ) (a : A) → AreBytes s → answer (length s) (unpack ws s) ≡ did a → (test (valuesOf a) ≡ true) × (pack ws size (valuesOf a) ≡ s)
-    redone s a f e =
+    pack-unpack : (s : List ℕ) (a : A) → AreBytes s → answer (length s) (unpack ws s) ≡ done a → (test (valuesOf a) ≡ true) × (pack ws size (valuesOf a) ≡ s)
+    pack-unpack s a f e =
         let vs = unpack ws s in
         let p = passed number (eqb (length s) size) (test vs) (ofValues vs) a e in
         let n : length s ≡ size = eqb-true (length s) size (p .0) in
@@ -65,4 +65,4 @@ module _ {A : Type 0} (fields : List Field) (size number : ℕ) (test : List ℕ
         )
 
     pub inverse : Inverse (λ a. test (valuesOf a)) (λ a. pack ws size (valuesOf a)) (λ s. answer (length s) (unpack ws s))
-    inverse = record { undone = undone; redone = redone }
+    inverse = record { unpack-pack = unpack-pack; pack-unpack = pack-unpack }

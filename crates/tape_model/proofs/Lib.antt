@@ -3,5 +3,6 @@ pub mod BitByBit
 pub mod Ranges
 pub mod Inverses
 pub mod Tickets
+pub mod Tapes
 pub mod Cases
 pub mod Listing

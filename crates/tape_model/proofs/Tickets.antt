@@ -11,7 +11,7 @@ use Rattle.acorn_model.specs.Bits.{AreBytes}
 use Rattle.tape_model.specs.declared.Ticket.{Ticket}
 use Rattle.tape_model.specs.declared.Head.{Head}
 use Rattle.tape_model.specs.Format.{widths, inRanges, cut}
-use Rattle.tape_model.specs.Ticket.{form1, ticketLength, ticketValues, ticketOf, ordered, ticketRule, packTicket, unpackTicket, headFormat, headLength, headValues, headOf, headRule, packHead, unpackHead}
+use Rattle.tape_model.specs.Ticket.{form1, ticketLength, ticketValues, ticketOf, ordered, valuesRule, ticketRule, packTicket, unpackTicket, headFormat, headLength, headValues, headOf, headRule, packHead, unpackHead}
 use Rattle.tape_model.specs.Laws.{Inverse}
 use Rattle.tape_model.proofs.Ranges.{both, InRanges, in-ranges, pack-bytes}
 use Rattle.tape_model.proofs.Inverses.{Laid, inverse}
@@ -25,7 +25,7 @@ in-order t h =
     (leb-true _ _ (p .0), ltb-true _ _ (p .1))
 
 pub ticket-rule : (t : Ticket) → ticketRule t ≡ true → InRanges form1 (ticketValues t) × (t .loaded ≤ t .tipped) × (t .tare < t .gross)
-unfolding ticketRule
+unfolding ticketRule valuesRule
 ticket-rule t h =
     let p = both (inRanges form1 (ticketValues t)) (ordered t) h in
     let o = in-order t (p .1) in
@@ -37,19 +37,17 @@ head-rule h e = in-ranges headFormat (headValues h) e
 
 -- ## There and back
 
-abbrev ticketTest : List ℕ → Bool
-ticketTest vs = inRanges form1 vs && ordered (ticketOf vs)
-
 -- in range, the spare bits are zeros, so the ticket holds all that was cut
 spare-zero : (n : ℕ) → InRanges form1 (cut (widths form1) n) → ticketValues (ticketOf (cut (widths form1) n)) ≡ cut (widths form1) n
 spare-zero n r =
     let z : getD (cut (widths form1) n) 9 0 ≡ 0 = omega arith in
     rw z
 
-ranges-of : (vs : List ℕ) → ticketTest vs ≡ true → inRanges form1 vs ≡ true
+ranges-of : (vs : List ℕ) → valuesRule vs ≡ true → inRanges form1 vs ≡ true
+unfolding valuesRule
 ranges-of vs h = both (inRanges form1 vs) (ordered (ticketOf vs)) h .0
 
-ticket-laid : Laid form1 ticketLength 8 ticketTest ticketValues ticketOf
+ticket-laid : Laid form1 ticketLength 8 valuesRule ticketValues ticketOf
 ticket-laid =
     record {
       ranges = ranges-of;
@@ -61,7 +59,7 @@ ticket-laid =
 
 pub ticket-inverse : Inverse ticketRule packTicket unpackTicket
 unfolding ticketRule packTicket unpackTicket
-ticket-inverse = inverse form1 ticketLength 8 ticketTest ticketValues ticketOf ticket-laid
+ticket-inverse = inverse form1 ticketLength 8 valuesRule ticketValues ticketOf ticket-laid
 
 head-laid : Laid headFormat headLength 3 (inRanges headFormat) headValues headOf
 head-laid = record { ranges = λ vs h. h; roomy = omega arith; whole = refl; back = λ h. refl; forth = λ n h. refl }

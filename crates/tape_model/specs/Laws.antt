@@ -1,20 +1,20 @@
--- What is shown of the definitions on tickets, heads and tapes: the statements, to be read without their proofs.
+-- What is shown of the definitions on tickets, heads, tapes, the reader and the listing: the statements, to be read without their proofs.
 use mathlib.Core.Path.{_≡_}
 use mathlib.Core.Bool.{Bool, true}
-use mathlib.Core.List.{List, [], _∷_}
-use Prim.Native.Nat.{ℕ, _+_, _-_, _*_, _^_, _≤_, _<_}
-use lib.ListN.{length}
+use mathlib.Core.List.{List, [], _∷_, _++_}
+use Prim.Native.Nat.{ℕ, zero, suc, _+_, _-_, _*_, _^_, _≤_, _<_}
+use lib.ListN.{length, getD, replicate}
 use Rattle.acorn_model.specs.Bits.{AreBytes}
-use Rattle.acorn_model.specs.Calls.{Reply, did, over}
+use Rattle.acorn_model.specs.Calls.{Reply, refused, done, accepted, writtenOver}
 use Rattle.acorn_model.specs.Machine.{keyLength}
-use Rattle.acorn_model.specs.Message.{Result}
 use Rattle.tape_model.specs.declared.Ticket.{Ticket}
 use Rattle.tape_model.specs.declared.Head.{Head}
-use Rattle.tape_model.specs.Format.{totalWidth, join, cut, Fit, byteWidths, pack, bitString}
-use Rattle.tape_model.specs.Ticket.{ticketLength, ticketRule, packTicket, headRule}
+use Rattle.tape_model.specs.Format.{totalWidth, widths, join, cut, Fit, byteWidths, pack, bitString}
+use Rattle.tape_model.specs.Ticket.{form1, ticketLength, ticketValues, ticketRule, packTicket, unpackTicket, headFormat, headLength, headValues, headRule, packHead, unpackHead}
+use Rattle.tape_model.specs.Tape.{ticketLimit, packTickets, tapeOf, emptyTapeLength, totalNet, openRefusal, openTape}
+use Rattle.tape_model.specs.Reader.{Reading, ticket, atEnd, Reader, readerOver, readNext}
+use Rattle.tape_model.specs.Listing.{decimal, headLine, ticketLines, totalLine, refusedLine, listed, listing, printed, exampleText}
 use Rattle.tape_model.specs.Cases.{ticketWith}
-use Rattle.tape_model.specs.Listing.{decimal, listed, exampleText}
-use Rattle.tape_model.specs.Tape.{ticketLimit, packTickets, tapeOf, totalNet, Totals, openTape}
 
 -- ## Formats, over every list of widths
 
@@ -29,8 +29,20 @@ pub record FormatLaws : Type 0 where
 
 -- unpacking undoes packing on what the rule allows, and packing undoes unpacking where it accepts
 pub record Inverse {A : Type 0} (rule : A → Bool) (packed : A → List ℕ) (unpacked : List ℕ → Reply A) : Type 0 where
-  pub undone : (a : A) → rule a ≡ true → unpacked (packed a) ≡ did a
-  pub redone : (string : List ℕ) (a : A) → AreBytes string → unpacked string ≡ did a → (rule a ≡ true) × (packed a ≡ string)
+  pub unpack-pack : (a : A) → rule a ≡ true → unpacked (packed a) ≡ done a
+  pub pack-unpack : (string : List ℕ) (a : A) → AreBytes string → unpacked string ≡ done a → (rule a ≡ true) × (packed a ≡ string)
+
+pub record TicketLaws : Type 0 where
+  pub tickets : Inverse ticketRule packTicket unpackTicket
+  pub heads : Inverse headRule packHead unpackHead
+  -- 104 bits in 13 bytes, and 72 bits in 9, from the most significant bit of each field and byte
+  pub ticket-bits : (t : Ticket) → ticketRule t ≡ true → bitString (byteWidths 13) (packTicket t) ≡ bitString (widths form1) (ticketValues t)
+  pub ticket-width : totalWidth (widths form1) ≡ 104
+  pub head-bits : (h : Head) → headRule h ≡ true → bitString (byteWidths 9) (packHead h) ≡ bitString (widths headFormat) (headValues h)
+  pub head-width : totalWidth (widths headFormat) ≡ 72
+  -- no two valid tickets, and no two heads, are packed alike
+  pub ticket-injective : (t u : Ticket) → ticketRule t ≡ true → ticketRule u ≡ true → packTicket t ≡ packTicket u → t ≡ u
+  pub head-injective : (h i : Head) → headRule h ≡ true → headRule i ≡ true → packHead h ≡ packHead i → h ≡ i
 
 -- ## Tapes
 
@@ -39,11 +51,35 @@ abbrev pub Valid : List Ticket → Type 0
 Valid [] = Unit {0}
 Valid (t ∷ ts) = (ticketRule t ≡ true) × Valid ts
 
--- a list of at most 5,000 valid tickets comes back from its tape
-abbrev pub TapeOpens : Type 0
-TapeOpens = (key : List ℕ) (head : Head) (tickets : List Ticket) (out : List ℕ)
-    → length key ≡ keyLength → headRule head ≡ true → Valid tickets → length tickets ≤ ticketLimit → ticketLength * length tickets ≤ length out
-    → openTape key (tapeOf key head tickets) out ≡ record { answer = did (record { tickets = length tickets; net = totalNet tickets }); out = over (packTickets tickets) out }
+-- the answers of so many calls of a reader, and the reader after them
+abbrev pub readings : ℕ → Reader → List (Reply Reading)
+readings zero r = []
+readings (suc n) r = readNext r .answer ∷ readings n (readNext r .next)
+
+abbrev pub readerAfter : ℕ → Reader → Reader
+readerAfter zero r = r
+readerAfter (suc n) r = readerAfter n (readNext r .next)
+
+abbrev pub asReadings : List Ticket → List (Reply Reading)
+asReadings [] = []
+asReadings (t ∷ ts) = done (ticket t) ∷ asReadings ts
+
+-- for a key of 16 bytes, a head in its ranges and at most 5,000 valid tickets
+pub record TapeLaws (key : List ℕ) (head : Head) (tickets : List Ticket) : Type 0 where
+  pub size : length (tapeOf key head tickets) ≡ 25 + 13 * length tickets
+  -- the tape opens to the plain bytes, with the number of tickets and their total net
+  pub opens : (out : List ℕ) → 13 * length tickets ≤ length out
+      → openTape key (tapeOf key head tickets) out
+      ≡ record { answer = done (record { tickets = length tickets; net = totalNet tickets }); out = writtenOver (packTickets tickets) out }
+  -- a reader over the plain bytes hands out the tickets in turn, and then is at the end for good
+  pub reads : readings (length tickets) (readerOver (packTickets tickets)) ≡ asReadings tickets
+  pub ends : (n : ℕ) → readNext (readerAfter (length tickets + n) (readerOver (packTickets tickets))) .answer ≡ done atEnd
+  -- key and tape are listed
+  pub lists : printed (key ++ tapeOf key head tickets) ≡ headLine head ++ ticketLines 1 tickets ++ totalLine tickets
+
+abbrev pub TapesComeBack : Type 0
+TapesComeBack = (key : List ℕ) (head : Head) (tickets : List Ticket)
+    → length key ≡ keyLength → headRule head ≡ true → Valid tickets → length tickets ≤ ticketLimit → TapeLaws key head tickets
 
 -- ## The listing
 
@@ -53,7 +89,11 @@ valueAfter a [] = a
 valueAfter a (d ∷ ds) = valueAfter (10 * a + (d - 0x30)) ds
 
 pub record ListingLaws : Type 0 where
-  -- the digits of a listed number make that number
-  pub digits : (n : ℕ) → n < 10 ^ 20 → valueAfter 0 (decimal n) ≡ n
+  -- what is printed of a number are decimal digits, of which the first is no zero but for the number 0, and they make the number
+  pub digits : (n : ℕ) → n < 10 ^ 20 → (i : ℕ) → i < length (decimal n) → (0x30 ≤ getD (decimal n) i 0) × (getD (decimal n) i 0 ≤ 0x39)
+  pub leading : (n : ℕ) → n < 10 ^ 20 → 0 < n → 0x30 < getD (decimal n) 0 0
+  pub value : (n : ℕ) → n < 10 ^ 20 → valueAfter 0 (decimal n) ≡ n
+  -- a refusal is printed alone
+  pub refusal : (key tape : List ℕ) (n : ℕ) → openRefusal key tape (replicate (length tape) 0) ≡ suc n → listing key tape ≡ refusedLine (suc n)
   -- document 01's example
-  pub example : listed (did (record { device = 7; shift = 2; sheet = 1 })) (ticketWith 3600 4200 250000 110000 ∷ []) ≡ exampleText
+  pub example : listed (done (record { device = 7; shift = 2; sheet = 1 })) (ticketWith 3600 4200 250000 110000 ∷ []) ≡ exampleText

@@ -5,11 +5,11 @@ use Prim.Native.Nat.{ℕ, zero, suc, _+_, _/_, _%_}
 use lib.Dec.{ltb}
 use lib.ListN.{length, take, drop, replicate}
 use Rattle.acorn_model.specs.Bits.{_if_else_}
-use Rattle.acorn_model.specs.Calls.{Reply, refused, did}
+use Rattle.acorn_model.specs.Calls.{Reply, refused, done}
 use Rattle.acorn_model.specs.Machine.{keyLength}
 use Rattle.tape_model.specs.declared.Ticket.{Ticket}
 use Rattle.tape_model.specs.declared.Head.{Head}
-use Rattle.tape_model.specs.Ticket.{ticketLength, net, unpackHead, headLength}
+use Rattle.tape_model.specs.Ticket.{net, unpackHead}
 use Rattle.tape_model.specs.Tape.{totalNet, unpackTickets, ticketsIn, headBytes, ticketCount, plainBytes, openRefusal}
 
 -- ## Words and numbers
@@ -70,18 +70,15 @@ refusedLine n = wordRefused ++ numbers (n ∷ []) ++ lineEnd
 
 unfoldable pub listed : Reply Head → List Ticket → List ℕ
 listed (refused n) ts = refusedLine n
-listed (did h) ts = headLine h ++ ticketLines 1 ts ++ totalLine ts
+listed (done h) ts = headLine h ++ ticketLines 1 ts ++ totalLine ts
 
 -- by the number that refuses to open the tape, into room enough for its plain bytes: the listing, or the refusal alone
 unfoldable pub listingUnless : ℕ → List ℕ → List ℕ → List ℕ
 listingUnless zero key tape = listed (unpackHead (headBytes tape)) (ticketsIn (unpackTickets (ticketCount tape) (plainBytes key tape)))
 listingUnless (suc n) key tape = refusedLine (suc n)
 
-abbrev pub room : List ℕ → List ℕ
-room tape = replicate (length tape) 0
-
 unfoldable pub listing : List ℕ → List ℕ → List ℕ
-listing key tape = listingUnless (openRefusal key tape (room tape)) key tape
+listing key tape = listingUnless (openRefusal key tape (replicate (length tape) 0)) key tape
 
 -- what is printed for the bytes on standard input: the key's 16, or fewer where it is cut short, and then a tape
 unfoldable pub printed : List ℕ → List ℕ

@@ -5,7 +5,7 @@ use Prim.Native.Nat.{ℕ, _+_, _*_, _/_}
 use lib.Dec.{leb}
 use lib.ListN.{length, take, drop}
 use Rattle.acorn_model.specs.Bits.{_if_else_}
-use Rattle.acorn_model.specs.Calls.{Reply, refused, did}
+use Rattle.acorn_model.specs.Calls.{Reply, refused, done}
 use Rattle.tape_model.specs.declared.Ticket.{Ticket}
 use Rattle.tape_model.specs.declared.NextTicket.{NextTicket}
 use Rattle.tape_model.specs.declared.NextTicket.the-variants.{Refused, Done, End}
@@ -22,7 +22,7 @@ pub record Reader : Type 0 where
   pub string : List ℕ
   pub position : ℕ
 
--- a reader may be made over any bytes
+-- a fresh reader, over whatever bytes
 unfoldable pub readerOver : List ℕ → Reader
 readerOver string = record { string = string; position = 0 }
 
@@ -33,20 +33,20 @@ pub record ReadOutcome : Type 0 where
 abbrev pub stays : Reader → Reply Reading → ReadOutcome
 stays r answer = record { next = r; answer = answer }
 
--- a ticket that does not unpack ends the reading with its number, and the reader stays before it
+-- by what the next bytes unpack to: the reader goes on past the ticket, or stays where it is with the number
 unfoldable pub handedOut : Reply Ticket → Reader → ReadOutcome
 handedOut (refused n) r = stays r (refused n)
-handedOut (did t) r = record { next = record { string = r .string; position = r .position + 1 }; answer = did (ticket t) }
+handedOut (done t) r = record { next = record { string = r .string; position = r .position + 1 }; answer = done (ticket t) }
 
 -- the next ticket: 2 where the bytes are not 13n, with n at most 5,000; 8 where a ticket does not unpack
 unfoldable pub readNext : Reader → ReadOutcome
 readNext r =
     stays r (refused 2) if not (ticketsLength (length (r .string))) else
-    stays r (did atEnd) if leb (length (r .string) / ticketLength) (r .position) else
+    stays r (done atEnd) if leb (length (r .string) / ticketLength) (r .position) else
     handedOut (unpackTicket (take ticketLength (drop (ticketLength * r .position) (r .string)))) r
 
--- the number and the values of each case of the answer in code
-unfoldable pub readingIn : NextTicket → Reply Reading
-readingIn (Refused n) = refused n
-readingIn (Done t) = did (ticket t)
-readingIn End = did atEnd
+-- document 01's number and values for each case of the answer in code
+unfoldable pub nextReply : NextTicket → Reply Reading
+nextReply (Refused n) = refused n
+nextReply (Done t) = done (ticket t)
+nextReply End = done atEnd

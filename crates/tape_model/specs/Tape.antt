@@ -6,14 +6,14 @@ use lib.Dec.{leb, ltb, eqb}
 use lib.ListN.{length, take, drop, replicate}
 use Rattle.acorn_model.specs.Bits.{_if_else_}
 use Rattle.acorn_model.specs.Stretches.{tagLength}
-use Rattle.acorn_model.specs.Calls.{Reply, refused, did, accepted}
+use Rattle.acorn_model.specs.Calls.{Reply, refused, done, accepted}
 use Rattle.acorn_model.specs.Machine.{keyLength}
 use Rattle.acorn_model.specs.Message.{Result, resultOf, sealed, tagMatches, opened}
 use Rattle.tape_model.specs.declared.Ticket.{Ticket}
 use Rattle.tape_model.specs.declared.Head.{Head}
 use Rattle.tape_model.specs.declared.OpenedTape.{OpenedTape}
 use Rattle.tape_model.specs.declared.OpenedTape.the-variants.{Refused, Done}
-use Rattle.tape_model.specs.Ticket.{ticketLength, ticketRule, net, packTicket, unpackTicket, headLength, headRule, packHead, unpackHead}
+use Rattle.tape_model.specs.Ticket.{ticketLength, net, packTicket, unpackTicket, headLength, packHead, unpackHead}
 
 -- ## What a tape is
 
@@ -21,7 +21,7 @@ use Rattle.tape_model.specs.Ticket.{ticketLength, ticketRule, net, packT
 abbrev pub ticketLimit : ℕ
 ticketLimit = 5000
 
--- the nonce is the head's bytes and 7 zero bytes; the data is the head's bytes
+-- the nonce that goes with a head's bytes: they are filled up to 16 with zeros
 abbrev pub nonceOf : List ℕ → List ℕ
 nonceOf headBytes = headBytes ++ replicate 7 0
 
@@ -30,34 +30,34 @@ unfoldable pub packTickets : List Ticket → List ℕ
 packTickets [] = []
 packTickets (t ∷ ts) = packTicket t ++ packTickets ts
 
--- head, ciphertext of the packed tickets, tag
+-- the head, and then the packed tickets sealed with the head as data
 unfoldable pub tapeOf : List ℕ → Head → List Ticket → List ℕ
 tapeOf key head tickets = packHead head ++ sealed key (nonceOf (packHead head)) (packHead head) (packTickets tickets)
 
 -- ## Opened bytes
 
--- 13n bytes, with n at most 5,000
+-- whether n bytes are 13 for each of at most 5,000 tickets
 unfoldable pub ticketsLength : ℕ → Bool
 ticketsLength n = eqb (n % ticketLength) 0 && leb (n / ticketLength) ticketLimit
 
 -- a ticket before others; the first refusal is the answer
-abbrev pub before : Reply Ticket → Reply (List Ticket) → Reply (List Ticket)
-before (refused n) others = refused n
-before (did t) (refused n) = refused n
-before (did t) (did ts) = did (t ∷ ts)
+abbrev pub ticketThen : Reply Ticket → Reply (List Ticket) → Reply (List Ticket)
+ticketThen (refused n) others = refused n
+ticketThen (done t) (refused n) = refused n
+ticketThen (done t) (done ts) = done (t ∷ ts)
 
 -- the n tickets in plain bytes
 unfoldable pub unpackTickets : ℕ → List ℕ → Reply (List Ticket)
-unpackTickets zero string = did []
-unpackTickets (suc n) string = before (unpackTicket (take ticketLength string)) (unpackTickets n (drop ticketLength string))
+unpackTickets zero string = done []
+unpackTickets (suc n) string = ticketThen (unpackTicket (take ticketLength string)) (unpackTickets n (drop ticketLength string))
 
 abbrev pub isRefused : {A : Type 0} → Reply A → Bool
 isRefused (refused n) = true
-isRefused (did a) = false
+isRefused (done a) = false
 
 abbrev pub ticketsIn : Reply (List Ticket) → List Ticket
 ticketsIn (refused n) = []
-ticketsIn (did ts) = ts
+ticketsIn (done ts) = ts
 
 unfoldable pub totalNet : List Ticket → ℕ
 totalNet [] = 0
@@ -70,12 +70,13 @@ pub record Totals : Type 0 where
   pub tickets : ℕ
   pub net : ℕ
 
--- 25 + 13n bytes, with n at most 5,000
-abbrev pub frameLength : ℕ
-frameLength = headLength + tagLength
+-- the bytes of a tape of no tickets
+abbrev pub emptyTapeLength : ℕ
+emptyTapeLength = headLength + tagLength
 
+-- whether n bytes are those of a tape: 25 and 13 for each of at most 5,000 tickets
 unfoldable pub tapeLength : ℕ → Bool
-tapeLength n = leb frameLength n && ticketsLength (n - frameLength)
+tapeLength n = leb emptyTapeLength n && ticketsLength (n - emptyTapeLength)
 
 abbrev pub headBytes : List ℕ → List ℕ
 headBytes tape = take headLength tape
@@ -84,7 +85,7 @@ abbrev pub sealedBytes : List ℕ → List ℕ
 sealedBytes tape = drop headLength tape
 
 abbrev pub ticketCount : List ℕ → ℕ
-ticketCount tape = (length tape - frameLength) / ticketLength
+ticketCount tape = (length tape - emptyTapeLength) / ticketLength
 
 module _ (key tape : List ℕ) where
   unfoldable pub plainBytes : List ℕ
@@ -103,7 +104,7 @@ module _ (key tape : List ℕ) where
   unfoldable pub openTape : List ℕ → Result Totals
   openTape out = resultOf (openRefusal out) (record { tickets = ticketCount tape; net = totalNet (ticketsIn (unpackTickets (ticketCount tape) plainBytes)) }) plainBytes out
 
--- the number and the values of each case of the answer in code
-unfoldable pub totalsIn : OpenedTape → Reply Totals
-totalsIn (Refused n) = refused n
-totalsIn (Done tickets net) = did (record { tickets = tickets; net = net })
+-- document 01's number and values for each case of the answer in code
+unfoldable pub openedReply : OpenedTape → Reply Totals
+openedReply (Refused n) = refused n
+openedReply (Done tickets net) = done (record { tickets = tickets; net = net })

@@ -1,11 +1,11 @@
 -- Document 01, "Ticket, head, tape", on tickets and heads: their formats and rules, how they are packed, and what bytes unpack to.
 use mathlib.Core.Bool.{Bool, true, false, not, _&&_}
-use mathlib.Core.List.{List, [], _∷_, _++_}
+use mathlib.Core.List.{List, [], _∷_}
 use Prim.Native.Nat.{ℕ, _-_}
 use lib.Dec.{leb, ltb, eqb}
-use lib.ListN.{length, getD, replicate}
+use lib.ListN.{length, getD}
 use Rattle.acorn_model.specs.Bits.{_if_else_}
-use Rattle.acorn_model.specs.Calls.{Reply, refused, did, accepted}
+use Rattle.acorn_model.specs.Calls.{Reply, refused, done, accepted}
 use Rattle.acorn_model.specs.Message.{Result, resultOf}
 use Rattle.tape_model.specs.declared.Ticket.{Ticket}
 use Rattle.tape_model.specs.declared.Head.{Head}
@@ -58,9 +58,12 @@ ticketOf vs =
 unfoldable pub ordered : Ticket → Bool
 ordered t = leb (t .loaded) (t .tipped) && ltb (t .tare) (t .gross)
 
--- the ticket rule: what a valid ticket is
+-- the ticket rule, of values (the spare bits among them) and of a ticket
+unfoldable pub valuesRule : List ℕ → Bool
+valuesRule vs = inRanges form1 vs && ordered (ticketOf vs)
+
 unfoldable pub ticketRule : Ticket → Bool
-ticketRule t = inRanges form1 (ticketValues t) && ordered t
+ticketRule t = valuesRule (ticketValues t)
 
 unfoldable pub net : Ticket → ℕ
 net t = t .gross - t .tare
@@ -68,12 +71,12 @@ net t = t .gross - t .tare
 unfoldable pub packTicket : Ticket → List ℕ
 packTicket t = pack (widths form1) ticketLength (ticketValues t)
 
--- the ticket in packed bytes: 2 for another size, 8 where the values (the spare bits among them) break the rule
+-- the ticket in packed bytes: 2 for another size, 8 where the values break the rule
 unfoldable pub unpackTicket : List ℕ → Reply Ticket
 unpackTicket string =
     refused 2 if not (eqb (length string) ticketLength) else
-    refused 8 if not (inRanges form1 (unpack (widths form1) string) && ordered (ticketOf (unpack (widths form1) string))) else
-    did (ticketOf (unpack (widths form1) string))
+    refused 8 if not (valuesRule (unpack (widths form1) string)) else
+    done (ticketOf (unpack (widths form1) string))
 
 -- a ticket packed into lent bytes: 4, then 6
 unfoldable pub packTicketInto : Ticket → List ℕ → Result ℕ
@@ -110,18 +113,18 @@ unfoldable pub unpackHead : List ℕ → Reply Head
 unpackHead string =
     refused 2 if not (eqb (length string) headLength) else
     refused 3 if not (inRanges headFormat (unpack (widths headFormat) string)) else
-    did (headOf (unpack (widths headFormat) string))
+    done (headOf (unpack (widths headFormat) string))
 
 -- a head packed into lent bytes: 3, then 6
 unfoldable pub packHeadInto : Head → List ℕ → Result ℕ
 packHeadInto h out = resultOf (3 if not (headRule h) else 6 if ltb (length out) headLength else accepted) headLength (packHead h) out
 
--- ## The number and the values of each case of the answers in code
+-- ## Document 01's number and values for each case of the answers in code
 
-unfoldable pub ticketIn : UnpackedTicket → Reply Ticket
-ticketIn (NoTicket n) = refused n
-ticketIn (TicketDone t) = did t
+unfoldable pub ticketReply : UnpackedTicket → Reply Ticket
+ticketReply (NoTicket n) = refused n
+ticketReply (TicketDone t) = done t
 
-unfoldable pub headIn : UnpackedHead → Reply Head
-headIn (NoHead n) = refused n
-headIn (HeadDone h) = did h
+unfoldable pub headReply : UnpackedHead → Reply Head
+headReply (NoHead n) = refused n
+headReply (HeadDone h) = done h

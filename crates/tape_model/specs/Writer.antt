@@ -7,7 +7,7 @@ use lib.ListN.{length}
 use Rattle.acorn_model.specs.declared.Kind.the-variants.{Sealing}
 use Rattle.acorn_model.specs.Bits.{_if_else_}
 use Rattle.acorn_model.specs.Stretches.{tagLength}
-use Rattle.acorn_model.specs.Calls.{Reply, refused, did, Work, accepted, unlessRefused, over, Outcome, refusedWith}
+use Rattle.acorn_model.specs.Calls.{Reply, refused, done, Work, accepted, unlessRefused, writtenOver, Outcome, refusedWith}
 use Rattle.acorn_model.specs.Machine.{Machine, fresh, begin, dataCall, sealText, sealClose, keyLength, call}
 use Rattle.tape_model.specs.declared.Ticket.{Ticket}
 use Rattle.tape_model.specs.declared.Head.{Head}
@@ -104,12 +104,12 @@ refusal w c =
 -- fresh at first, that is the answer and nothing changes.
 unfoldable pub onAnswer : Reply Work → (Work → Outcome PlainWriter Work) → PlainWriter → List ℕ → Outcome PlainWriter Work
 onAnswer (refused n) goOn w out = refusedWith n w out
-onAnswer (did work) goOn w out = goOn work
+onAnswer (done work) goOn w out = goOn work
 
 -- the machine's call is the writer's: its answer, its output, and a writer in this phase with so many tickets
 unfoldable pub passedOn : Outcome Machine Work → WriterPhase → ℕ → PlainWriter → List ℕ → Outcome PlainWriter Work
 passedOn o phase tickets w out =
-    onAnswer (o .answer) (λ work. record { next = record { machine = o .next; phase = phase; tickets = tickets }; answer = did work; out = o .out }) w out
+    onAnswer (o .answer) (λ work. record { next = record { machine = o .next; phase = phase; tickets = tickets }; answer = done work; out = o .out }) w out
 
 -- start: begin, then data with the head; the head is written
 unfoldable pub started : Outcome Machine Work → Outcome Machine Work → Head → PlainWriter → List ℕ → Outcome PlainWriter Work
@@ -118,8 +118,8 @@ started begun fed head w out =
     (λ beginWork. onAnswer (fed .answer)
     (λ dataWork. record {
       next = record { machine = fed .next; phase = Open; tickets = w .tickets };
-      answer = did (record { bytes = headLength; steps = dataWork .steps });
-      out = over (packHead head) out;
+      answer = done (record { bytes = headLength; steps = dataWork .steps });
+      out = writtenOver (packHead head) out;
     }) w out) w out
 
 unfoldable pub work : PlainWriter → WriterCall → Outcome PlainWriter Work

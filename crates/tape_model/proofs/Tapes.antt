@@ -1,0 +1,197 @@
+-- A tape's tickets come back: from its opened bytes, by opening, by a reader, and in the listing.
+use mathlib.Core.Path.{_≡_, refl, sym, ap, ap₂, _∙_, subst}
+use mathlib.Core.Bool.{Bool, true, false, not, _&&_}
+use mathlib.Core.List.{List, [], _∷_, _++_}
+use Prim.Native.Nat.{ℕ, zero, suc, _+_, _-_, _*_, _/_, _%_, _≤_, _<_}
+use native.Mathlib.Omega.{arith}
+use lib.Dec.{leb, ltb, eqb}
+use lib.ListN.{length, getD, take, drop, replicate, length-append, length-replicate}
+use lib.Seq.{take-at, drop-at, drop-drop}
+use borrow.Author.Tests.{le-leb, lt-leb, le-ltb, eq-eqb}
+use Rattle.acorn_model.specs.Bits.{_if_else_, AreBytes}
+use Rattle.acorn_model.specs.Calls.{Reply, refused, done, accepted, unlessRefused, writtenOver}
+use Rattle.acorn_model.specs.Machine.{keyLength}
+use Rattle.acorn_model.specs.Paper.{ciphertext, tag}
+use Rattle.acorn_model.specs.Message.{resultOf, sealed, tagMatches, opened}
+use Rattle.acorn_model.proofs.Bytes.{append-are-bytes}
+use Rattle.acorn_model.proofs.Outputs.{ciphertext-length, tag-length, sealed-are-bytes}
+use Rattle.acorn_model.proofs.Proved.{opening-exact}
+use Rattle.tape_model.specs.declared.Ticket.{Ticket}
+use Rattle.tape_model.specs.declared.Head.{Head}
+use Rattle.tape_model.specs.Ticket.{ticketLength, ticketRule, packTicket, unpackTicket, headLength, headRule, packHead, unpackHead}
+use Rattle.tape_model.specs.Tape.{ticketLimit, nonceOf, packTickets, tapeOf, ticketsLength, ticketThen, unpackTickets, isRefused, ticketsIn, totalNet, emptyTapeLength, tapeLength, headBytes, sealedBytes, ticketCount, plainBytes, openRefusal, openTape}
+use Rattle.tape_model.specs.Reader.{Reading, ticket, atEnd, Reader, readerOver, readNext, stays, handedOut}
+use Rattle.tape_model.specs.Listing.{headLine, ticketLines, totalLine, listed, listingUnless, listing, printed}
+use Rattle.tape_model.specs.Laws.{Valid, readings, readerAfter, asReadings, TapeLaws, TapesComeBack}
+use Rattle.tape_model.proofs.Tickets.{ticket-inverse, head-inverse, ticket-length, ticket-bytes, head-length, head-bytes}
+
+-- ## Plain bytes
+
+pub tickets-length : (ts : List Ticket) → length (packTickets ts) ≡ 13 * length ts
+unfolding packTickets
+tickets-length [] = refl
+tickets-length (t ∷ ts) = omega (arith, length-append (packTicket t) (packTickets ts), ticket-length t, tickets-length ts)
+
+pub tickets-bytes : (ts : List Ticket) → AreBytes (packTickets ts)
+unfolding packTickets
+tickets-bytes [] = λ p. omega arith
+tickets-bytes (t ∷ ts) = append-are-bytes (packTicket t) (packTickets ts) (ticket-bytes t) (tickets-bytes ts)
+
+first-ticket : (t : Ticket) (ts : List Ticket) → take ticketLength (packTickets (t ∷ ts)) ≡ packTicket t
+unfolding packTickets
+first-ticket t ts = take-at (packTicket t) (packTickets ts) ticketLength (ticket-length t)
+
+later-tickets : (t : Ticket) (ts : List Ticket) → drop ticketLength (packTickets (t ∷ ts)) ≡ packTickets ts
+unfolding packTickets
+later-tickets t ts = drop-at (packTicket t) (packTickets ts) ticketLength (ticket-length t)
+
+pub tickets-unpack : (ts : List Ticket) → Valid ts → unpackTickets (length ts) (packTickets ts) ≡ done ts
+unfolding unpackTickets
+tickets-unpack [] v = refl
+tickets-unpack (t ∷ ts) v =
+    ap₂ (λ (a b : List ℕ). ticketThen (unpackTicket a) (unpackTickets (length ts) b)) (first-ticket t ts) (later-tickets t ts)
+    ∙ ap₂ ticketThen (ticket-inverse .unpack-pack t (v .0)) (tickets-unpack ts (v .1))
+
+pub length-allowed : (n : ℕ) → n ≤ ticketLimit → ticketsLength (13 * n) ≡ true
+unfolding ticketsLength
+length-allowed n h = ap₂ _&&_ (eq-eqb (13 * n % 13) 0 (omega arith)) (le-leb (13 * n / 13) 5000 (omega arith))
+
+-- ## Reading
+
+-- a reader that has the packed tickets ts before it, behind p others
+record Before (p : ℕ) (ts : List Ticket) (s : List ℕ) : Type 0 where
+  allowed : ticketsLength (length s) ≡ true
+  count : length s ≡ 13 * (p + length ts)
+  rest : drop (13 * p) s ≡ packTickets ts
+
+abbrev at : List ℕ → ℕ → Reader
+at s p = record { string = s; position = p }
+
+next-ticket : (p : ℕ) (t : Ticket) (ts : List Ticket) (s : List ℕ) → ticketRule t ≡ true → Before p (t ∷ ts) s
+    → readNext (at s p) ≡ record { next = at s (p + 1); answer = done (ticket t) }
+unfolding readNext handedOut
+next-ticket p t ts s v b =
+    rw (b .allowed, lt-leb (length s / 13) p (omega (arith, b .count)))
+    (ap (λ (r : Reply Ticket). handedOut r (at s p)) (ap (λ (l : List ℕ). unpackTicket (take ticketLength l)) (b .rest) ∙ ap unpackTicket (first-ticket t ts) ∙ ticket-inverse .unpack-pack t v))
+
+at-end : (p : ℕ) (s : List ℕ) → Before p [] s → readNext (at s p) ≡ stays (at s p) (done atEnd)
+unfolding readNext
+at-end p s b = rw (b .allowed, le-leb (length s / 13) p (omega (arith, b .count)))
+
+one-on : (p : ℕ) (t : Ticket) (ts : List Ticket) (s : List ℕ) → Before p (t ∷ ts) s → Before (p + 1) ts s
+one-on p t ts s b =
+    record {
+      allowed = b .allowed;
+      count = omega (arith, b .count);
+      rest = ap (λ (n : ℕ). drop n s) {x = 13 * (p + 1)} {y = 13 * p + 13} (omega arith) ∙ sym (drop-drop 13 (13 * p) s) ∙ ap (drop 13) (b .rest) ∙ later-tickets t ts;
+    }
+
+reads-from : (p : ℕ) (ts : List Ticket) (s : List ℕ) → Valid ts → Before p ts s → readings (length ts) (at s p) ≡ asReadings ts
+reads-from p [] s v b = refl
+reads-from p (t ∷ ts) s v b =
+    let e = next-ticket p t ts s (v .0) b in
+    ap₂ _∷_ (λ i. e i .answer) ((λ i. readings (length ts) (e i .next)) ∙ reads-from (p + 1) ts s (v .1) (one-on p t ts s b))
+
+stays-at-end : (n p : ℕ) (s : List ℕ) → Before p [] s → readNext (readerAfter n (at s p)) .answer ≡ done atEnd
+stays-at-end zero p s b = λ i. at-end p s b i .answer
+stays-at-end (suc n) p s b = (λ i. readNext (readerAfter n (at-end p s b i .next)) .answer) ∙ stays-at-end n p s b
+
+ends-from : (n p : ℕ) (ts : List Ticket) (s : List ℕ) → Valid ts → Before p ts s → readNext (readerAfter (length ts + n) (at s p)) .answer ≡ done atEnd
+ends-from n p [] s v b = ap (λ (k : ℕ). readNext (readerAfter k (at s p)) .answer) {x = 0 + n} {y = n} (omega arith) ∙ stays-at-end n p s b
+ends-from n p (t ∷ ts) s v b =
+    ap (λ (k : ℕ). readNext (readerAfter k (at s p)) .answer) {x = suc (length ts) + n} {y = suc (length ts + n)} (omega arith)
+    ∙ (λ i. readNext (readerAfter (length ts + n) (next-ticket p t ts s (v .0) b i .next)) .answer)
+    ∙ ends-from n (p + 1) ts s (v .1) (one-on p t ts s b)
+
+-- ## Opening
+
+-- no number of the chain applies
+none-applies : (a b c d e : Bool) → a ≡ false → b ≡ false → c ≡ false → d ≡ false → e ≡ false
+    → (2 if a else 3 if b else 6 if c else 7 if d else 8 if e else accepted) ≡ accepted
+none-applies a b c d e p q r s t = rw (p, q, r, s, t)
+
+module _ (key : List ℕ) (head : Head) (ts : List Ticket) (k : length key ≡ keyLength) (h : headRule head ≡ true) (v : Valid ts) (n : length ts ≤ ticketLimit) where
+  abbrev tape : List ℕ
+  tape = tapeOf key head ts
+
+  abbrev nonce : List ℕ
+  nonce = nonceOf (packHead head)
+
+  sealed-length : length (sealed key nonce (packHead head) (packTickets ts)) ≡ 13 * length ts + 16
+  unfolding sealed
+  sealed-length =
+      omega (arith, length-append (ciphertext key nonce (packHead head) (packTickets ts)) (tag key nonce (packHead head) (packTickets ts)),
+      ciphertext-length key nonce (packHead head) (packTickets ts), tag-length key nonce (packHead head) (packTickets ts), tickets-length ts)
+
+  size : length tape ≡ 25 + 13 * length ts
+  unfolding tapeOf
+  size = omega (arith, length-append (packHead head) (sealed key nonce (packHead head) (packTickets ts)), head-length head, sealed-length)
+
+  head-part : headBytes tape ≡ packHead head
+  unfolding tapeOf
+  head-part = take-at (packHead head) (sealed key nonce (packHead head) (packTickets ts)) headLength (head-length head)
+
+  sealed-part : sealedBytes tape ≡ sealed key nonce (packHead head) (packTickets ts)
+  unfolding tapeOf
+  sealed-part = drop-at (packHead head) (sealed key nonce (packHead head) (packTickets ts)) headLength (head-length head)
+
+  count : ticketCount tape ≡ length ts
+  count = omega (arith, size)
+
+  both : (tagMatches key nonce (packHead head) (sealed key nonce (packHead head) (packTickets ts)) ≡ true) × (opened key nonce (packHead head) (sealed key nonce (packHead head) (packTickets ts)) ≡ packTickets ts)
+  both =
+      opening-exact key nonce (packHead head) .whole (sealed key nonce (packHead head) (packTickets ts)) (packTickets ts)
+      (sealed-are-bytes key nonce (packHead head) (packTickets ts)) (tickets-bytes ts) .1 refl
+
+  plain : plainBytes key tape ≡ packTickets ts
+  unfolding plainBytes
+  plain = ap₂ (λ (a b : List ℕ). opened key (nonceOf a) a b) head-part sealed-part ∙ both .1
+
+  unpacks : unpackTickets (ticketCount tape) (plainBytes key tape) ≡ done ts
+  unpacks = ap₂ unpackTickets count plain ∙ tickets-unpack ts v
+
+  opens-head : unpackHead (headBytes tape) ≡ done head
+  opens-head = ap unpackHead head-part ∙ head-inverse .unpack-pack head h
+
+  lengths : (eqb (length key) keyLength && tapeLength (length tape)) ≡ true
+  unfolding tapeLength
+  lengths =
+      ap₂ _&&_ (eq-eqb (length key) keyLength k)
+      (ap₂ _&&_ (le-leb emptyTapeLength (length tape) (omega (arith, size))) (ap ticketsLength {x = length tape - emptyTapeLength} {y = 13 * length ts} (omega (arith, size)) ∙ length-allowed (length ts) n))
+
+  pub no-refusal : (out : List ℕ) → 13 * length ts ≤ length out → openRefusal key tape out ≡ accepted
+  unfolding openRefusal
+  no-refusal out room =
+      none-applies (not (eqb (length key) keyLength && tapeLength (length tape))) (isRefused (unpackHead (headBytes tape))) (ltb (length out) (ticketLength * ticketCount tape))
+      (not (tagMatches key (nonceOf (headBytes tape)) (headBytes tape) (sealedBytes tape))) (isRefused (unpackTickets (ticketCount tape) (plainBytes key tape)))
+      (ap not lengths) (ap isRefused opens-head) (le-ltb (length out) (ticketLength * ticketCount tape) (omega (arith, count)))
+      (ap not (ap₂ (λ (a b : List ℕ). tagMatches key (nonceOf a) a b) head-part sealed-part ∙ both .0)) (ap isRefused unpacks)
+
+  opens : (out : List ℕ) → 13 * length ts ≤ length out
+      → openTape key tape out ≡ record { answer = done (record { tickets = length ts; net = totalNet ts }); out = writtenOver (packTickets ts) out }
+  unfolding openTape resultOf unlessRefused
+  opens out room =
+      ap (λ (x : ℕ). resultOf x (record { tickets = ticketCount tape; net = totalNet (ticketsIn (unpackTickets (ticketCount tape) (plainBytes key tape))) }) (plainBytes key tape) out) (no-refusal out room)
+      ∙ (λ i. record { answer = done (record { tickets = count i; net = totalNet (ticketsIn (unpacks i)) }); out = writtenOver (plain i) out })
+
+  start : Before 0 ts (packTickets ts)
+  start =
+      record {
+        allowed = ap ticketsLength (tickets-length ts) ∙ length-allowed (length ts) n;
+        count = omega (arith, tickets-length ts);
+        rest = refl;
+      }
+
+  lists : printed (key ++ tape) ≡ headLine head ++ ticketLines 1 ts ++ totalLine ts
+  unfolding printed listing listingUnless listed
+  lists =
+      ap₂ listing (take-at key tape keyLength k) (drop-at key tape keyLength k)
+      ∙ ap (λ (x : ℕ). listingUnless x key tape) (no-refusal (replicate (length tape) 0) (omega (arith, length-replicate (length tape) {A = ℕ} 0, size)))
+      ∙ ap₂ (λ (x : Reply Head) (y : Reply (List Ticket)). listed x (ticketsIn y)) opens-head unpacks
+
+  laws : TapeLaws key head ts
+  unfolding readerOver
+  laws = record { size = size; opens = opens; reads = reads-from 0 ts (packTickets ts) v start; ends = λ m. ends-from m 0 ts (packTickets ts) v start; lists = lists }
+
+pub tapes-come-back : TapesComeBack
+tapes-come-back = laws
