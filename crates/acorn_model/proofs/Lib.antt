@@ -1,5 +1,6 @@
 pub mod Numbers
 pub mod Bytes
+pub mod Choices
 pub mod Runs
 pub mod States
 pub mod Outputs
