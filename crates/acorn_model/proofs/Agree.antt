@@ -1,9 +1,10 @@
--- A run whose m, ca and cb are as the paper's Schedule says goes through document 01's stretches. So the paper's ciphertext and tag are those of the stretches.
+-- A run whose m, ca and cb are as the paper's Schedule says goes through document 01's stretches.
+-- So the paper's ciphertext, text and tags are those of the stretches.
 use mathlib.Core.Path.{_≡_, refl, sym, ap, _∙_}
 use mathlib.Core.Bool.{Bool, true, false, _&&_}
 use mathlib.Core.List.{List}
 use mathlib.Core.Logic.{⊎-elim}
-use Prim.Native.Nat.{ℕ, _+_, _-_, _*_, _≤_, _<_}
+use Prim.Native.Nat.{ℕ, _+_, _-_, _*_, _%_, _≤_, _<_}
 use native.Mathlib.Omega.{arith}
 use lib.Dec.{eqb, ltb}
 use lib.ListN.{length}
@@ -14,6 +15,7 @@ use Rattle.acorn_model.specs.Stretches.{Stretch, tagLength, tagBits, sta
 use Rattle.acorn_model.specs.Paper.{_from_to_, Schedule, inputAt, stateAt, ksAt, textBitOut, tagBit, ciphertext, tag, decrypted, newTag}
 use Rattle.acorn_model.proofs.Numbers.{lt-or-ge}
 use Rattle.acorn_model.proofs.Bytes.{bytes-same}
+use Rattle.acorn_model.proofs.Choices.{if-below, if-past}
 use Rattle.acorn_model.proofs.Runs.{input-same, run-none, run-on}
 use Rattle.acorn_model.proofs.Scheduled.{scheduled}
 
@@ -21,7 +23,7 @@ use Rattle.acorn_model.proofs.Scheduled.{scheduled}
 abbrev pub end : Bool → Stretch
 end cb = record { steps = 256; m = λ i ks. eqb i 0; ca = λ i. ltb i 128; cb = cb }
 
-xor-true : (a : Bool) → a ⊕ true ≡ true ⊕ a
+xor-true : (a : Bool) → true ⊕ a ≡ a ⊕ true
 xor-true true = refl
 xor-true false = refl
 
@@ -44,43 +46,40 @@ module _ (opening : Bool) (key nonce «data» text : List ℕ) (g : ℕ → Step
   abbrev D : Bits
   D = afterData key nonce «data»
 
-  start-bit : (ks : Bool) (i : ℕ) → i < 1792 → g i .m ks ≡ startBit key nonce i
+  start-bit : (ks : Bool) (i : ℕ) → i < 1792 → startBit key nonce i ≡ g i .m ks
   unfolding startBit
   start-bit ks i l = ⊎-elim in-key onward (lt-or-ge i 128)
     where
-      in-key : i < 128 → g i .m ks ≡ startBit key nonce i
-      in-key k = h ks .m-key i (omega arith) ∙ rw (lt-ltb i 128 k)
+      in-key : i < 128 → startBit key nonce i ≡ g i .m ks
+      in-key k = if-below i _ k (sym (h ks .m-key i (omega arith)))
 
-      in-nonce : 128 ≤ i → i < 256 → g i .m ks ≡ startBit key nonce i
-      in-nonce k k' =
-          let e : 128 + (i - 128) ≡ i = omega arith in
-          ap (λ (n : ℕ). g n .m ks) (sym e) ∙ h ks .m-iv (i - 128) (omega arith) ∙ rw (le-ltb i 128 k, lt-ltb i 256 k')
+      in-nonce : 128 ≤ i → i < 256 → startBit key nonce i ≡ g i .m ks
+      in-nonce k k' = if-past i _ k (if-below i _ k' (sym (h ks .m-iv (i - 128) (omega arith)) ∙ ap (λ (n : ℕ). g n .m ks) (omega arith)))
 
-      inverted : 256 ≤ i → i < 257 → g i .m ks ≡ startBit key nonce i
-      inverted k k' =
-          let e : i ≡ 256 = omega arith in
-          ap (λ (n : ℕ). g n .m ks) e ∙ h ks .m-key-inverted ∙ xor-true (bitsIn key 0) ∙ ap (startBit key nonce) (sym e)
+      inverted : i ≡ 256 → startBit key nonce i ≡ g i .m ks
+      inverted e = rw e (xor-true (bitsIn key 0) ∙ sym (h ks .m-key-inverted))
 
-      again : 257 ≤ i → g i .m ks ≡ startBit key nonce i
+      again : 256 < i → startBit key nonce i ≡ g i .m ks
       again k =
-          let e : 256 + (i - 256) ≡ i = omega arith in
-          ap (λ (n : ℕ). g n .m ks) (sym e) ∙ h ks .m-key-again (i - 256) (omega arith) ∙ rw (le-ltb i 128 (omega arith), le-ltb i 256 (omega arith), ne-eqb i 256 (omega arith))
+          let not-256 : eqb i 256 ≡ false = ne-eqb i 256 (omega arith) in
+          if-past i _ (omega arith) (if-past i _ (omega arith)
+          (ap (λ (b : Bool). b ⊕ bitsIn key ((i - 256) % 128)) not-256 ∙ sym (h ks .m-key-again (i - 256) (omega arith)) ∙ ap (λ (n : ℕ). g n .m ks) (omega arith)))
 
-      onward : 128 ≤ i → g i .m ks ≡ startBit key nonce i
-      onward k = ⊎-elim (in-nonce k) (λ (k' : 256 ≤ i). ⊎-elim (inverted k') again (lt-or-ge i 257)) (lt-or-ge i 256)
+      onward : 128 ≤ i → startBit key nonce i ≡ g i .m ks
+      onward k = ⊎-elim (in-nonce k) (λ (k' : 256 ≤ i). ⊎-elim (λ (k'' : i < 257). inverted (omega arith)) again (lt-or-ge i 257)) (lt-or-ge i 256)
 
   after-start : run g 1792 zeros ≡ B
   unfolding through
   after-start =
-      run-on g (inputs (start key nonce)) 0 1792 zeros zeros (run-none g zeros)
+      run-on g _ 0 1792 zeros zeros (run-none g zeros)
       (λ i l. ap g {x = 0 + i} {y = i} (omega arith)
-      ∙ input-same (g i) (inputs (start key nonce) i) (h false .ca-start i (omega arith)) (h false .cb-start i (omega arith)) (λ ks. start-bit ks i l))
+      ∙ input-same _ _ (h false .ca-start i (omega arith)) (h false .cb-start i (omega arith)) (λ ks. sym (start-bit ks i l)))
 
   after-data : run g (1792 + A) zeros ≡ through (dataPiece «data») B
   unfolding through
   after-data =
-      run-on g (inputs (dataPiece «data»)) 1792 A zeros B after-start
-      (λ i l. input-same (g (1792 + i)) (inputs (dataPiece «data») i) (h false .ca-data i (omega arith)) (h false .cb-data i (omega arith)) (λ ks. h ks .m-data i l))
+      run-on g _ 1792 A zeros B after-start
+      (λ i l. input-same _ _ (h false .ca-data i (omega arith)) (h false .cb-data i (omega arith)) (λ ks. h ks .m-data i l))
 
   -- k steps into a stretch that starts at the paper's step n
   on : (stretch : Stretch) (n k : ℕ) (S : Bits) → run g (1792 + n) zeros ≡ S
@@ -91,7 +90,7 @@ module _ (opening : Bool) (key nonce «data» text : List ℕ) (g : ℕ → Step
   on stretch n k S e ca cb m =
       ap (λ (x : ℕ). run g x zeros) {x = 1792 + (n + k)} {y = 1792 + n + k} (omega arith)
       ∙ run-on g (inputs stretch) (1792 + n) k zeros S e
-      (λ i l. ap g {x = 1792 + n + i} {y = 1792 + (n + i)} (omega arith) ∙ input-same (g (1792 + (n + i))) (inputs stretch i) (ca i l) (cb i l) (m i l))
+      (λ i l. ap g {x = 1792 + n + i} {y = 1792 + (n + i)} (omega arith) ∙ input-same _ _ (ca i l) (cb i l) (m i l))
 
   -- either end, at the paper's step n: a one and then zeros, and ca for the first 128 steps
   after-end : (cb : Bool) (n : ℕ) (S : Bits) → run g (1792 + n) zeros ≡ S
@@ -144,15 +143,13 @@ module _ (opening : Bool) (key nonce «data» text : List ℕ) (g : ℕ → Step
   pub text-of-run : textOut opening text D ≡ bytes (length text) (λ j. bitsIn text j ⊕ keystreamBit (run g (1792 + (A + 256 + j)) zeros))
   unfolding textOut keystream
   text-of-run =
-      bytes-same (length text) (λ j. bitsIn text j ⊕ keystreamBit (run (inputs (textPiece opening text)) j D))
-      (λ j. bitsIn text j ⊕ keystreamBit (run g (1792 + (A + 256 + j)) zeros))
+      bytes-same (length text) _ _
       (λ j l. ap (λ (S : Bits). bitsIn text j ⊕ keystreamBit S) (sym (in-text j (omega arith))))
 
   pub tag-of-run : tagOf (beforeFinal opening text D) ≡ bytes tagLength (λ j. keystreamBit (run g (1792 + (A + P + 1279 - tagBits + 1 + j)) zeros))
   unfolding tagOf keystream
   tag-of-run =
-      bytes-same tagLength (λ j. keystreamBit (run (inputs final) (768 - tagBits + j) (beforeFinal opening text D)))
-      (λ j. keystreamBit (run g (1792 + (A + P + 1279 - tagBits + 1 + j)) zeros))
+      bytes-same tagLength _ _
       (λ j l. let e : 1792 + (A + P + 512 + (768 - tagBits + j)) ≡ 1792 + (A + P + 1279 - tagBits + 1 + j) = omega arith in
       ap keystreamBit (sym (in-final (768 - tagBits + j) (omega arith)) ∙ ap (λ (x : ℕ). run g x zeros) e))
 

@@ -1,4 +1,4 @@
--- Strings of bytes and their bits: each is made of the other, and how both go with joined strings.
+-- Strings of bytes and their bits: the bits of joined strings, the string that bits make, and that each gives the other again.
 use mathlib.Core.Path.{_≡_, refl, sym, ap, ap₂, _∙_}
 use mathlib.Core.List.{List, [], _∷_, _++_}
 use mathlib.Core.Logic.{⊎-elim}
@@ -54,7 +54,8 @@ bytes-add zero n b = ap₂ bytes {x = zero + n} {y = n} (omega arith) refl ∙ b
 bytes-add (suc m) n b =
     let e : suc m + n ≡ suc (m + n) = omega arith in
     ap (λ (k : ℕ). bytes k b) e
-    ∙ ap (λ (t : List ℕ). number 8 b ∷ t) (bytes-add m n (λ i. b (8 + i)) ∙ ap (λ (t : List ℕ). bytes m (λ i. b (8 + i)) ++ t) (bytes-same n (λ i. b (8 + (8 * m + i))) (λ i. b (8 * suc m + i)) (λ j l. ap b (omega arith))))
+    ∙ ap (λ (t : List ℕ). number 8 b ∷ t)
+    (bytes-add m n (λ i. b (8 + i)) ∙ ap (λ (t : List ℕ). bytes m (λ i. b (8 + i)) ++ t) (bytes-same n _ _ (λ j l. ap b (omega arith))))
 
 pub bytes-are-bytes : (n : ℕ) (b : Bits) → AreBytes (bytes n b)
 unfolding bytes
@@ -63,7 +64,7 @@ bytes-are-bytes (suc n) b zero = number-lt 8 b
 bytes-are-bytes (suc n) b (suc p) = bytes-are-bytes n (λ i. b (8 + i)) p
 
 pub append-are-bytes : (l k : List ℕ) → AreBytes l → AreBytes k → AreBytes (l ++ k)
-append-are-bytes [] k h g = g
+append-are-bytes [] k h g p = g p
 append-are-bytes (x ∷ l) k h g zero = h 0
 append-are-bytes (x ∷ l) k h g (suc p) = append-are-bytes l k (λ q. h (suc q)) g p
 
@@ -73,7 +74,7 @@ take-are-bytes (suc n) [] h p = omega arith
 take-are-bytes (suc n) (x ∷ l) h zero = h 0
 take-are-bytes (suc n) (x ∷ l) h (suc p) = take-are-bytes n l (λ q. h (suc q)) p
 
--- ## There and back
+-- ## Bits of bytes, and bytes of bits
 
 pub bits-of-bytes : (n : ℕ) (b : Bits) (j : ℕ) → j < 8 * n → bitsIn (bytes n b) j ≡ b j
 unfolding bytes

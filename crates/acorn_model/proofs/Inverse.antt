@@ -1,4 +1,5 @@
--- Opening undoes sealing and sealing undoes opening, with the same state after both. So a ciphertext and a tag open to a text exactly when they are the text's own.
+-- Opening undoes sealing and sealing undoes opening, with the same state after both.
+-- So a ciphertext and a tag open to a text exactly when they are the ciphertext and the tag of that text.
 use mathlib.Core.Path.{_≡_, refl, sym, ap, ap₂, _∙_}
 use mathlib.Core.Bool.{Bool, true, false, not, _&&_}
 use mathlib.Core.List.{List}
@@ -40,7 +41,7 @@ module _ (o : Bool) (S : Bits) (l c : List ℕ) (same-length : length c ≡ leng
   run-back : (k : ℕ) → k ≤ 8 * length l → run (inputs (textPiece (not o) c)) k S ≡ run (inputs (textPiece o l)) k S
   unfolding keystream
   run-back k h =
-      run-same-at (inputs (textPiece (not o) c)) (inputs (textPiece o l)) k S
+      run-same-at _ _ k S
       (λ i m. ap (λ (x : Bool). step true false x (run (inputs (textPiece o l)) i S))
       (ap (λ (x : Bool). (not o && keystream (textPiece o l) S i) ⊕ x) (c-is i (omega arith)) ∙ enters o (bitsIn l i) (keystream (textPiece o l) S i)))
 
@@ -56,13 +57,12 @@ module _ (o : Bool) (S : Bits) (l c : List ℕ) (same-length : length c ≡ leng
   unfolding textOut
   textOut-back h =
       ap (λ (n : ℕ). bytes n (λ j. bitsIn c j ⊕ keystream (textPiece (not o) c) S j)) same-length
-      ∙ bytes-same (length l) (λ j. bitsIn c j ⊕ keystream (textPiece (not o) c) S j) (bitsIn l) bit-back
-      ∙ bytes-of-bits l h
+      ∙ bytes-same (length l) _ _ bit-back ∙ bytes-of-bits l h
 
 module _ (o : Bool) (l : List ℕ) (S : Bits) where
   pub textOut-bits : (j : ℕ) → j < 8 * length l → bitsIn (textOut o l S) j ≡ bitsIn l j ⊕ keystream (textPiece o l) S j
   unfolding textOut
-  textOut-bits = bits-of-bytes (length l) (λ j. bitsIn l j ⊕ keystream (textPiece o l) S j)
+  textOut-bits = bits-of-bytes (length l) _
 
   pub through-inverse : through (textPiece (not o) (textOut o l S)) S ≡ through (textPiece o l) S
   through-inverse = through-back o S l (textOut o l S) (textOut-length o l S) textOut-bits

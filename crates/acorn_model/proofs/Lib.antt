@@ -1,6 +1,7 @@
 pub mod StepCases
 pub mod Numbers
 pub mod Bytes
+pub mod Choices
 pub mod Runs
 pub mod States
 pub mod Outputs

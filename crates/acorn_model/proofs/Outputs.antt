@@ -1,68 +1,69 @@
 -- What comes out, by the stretches and by the paper: how many bytes it is, and that they are bytes.
-use mathlib.Core.Path.{_≡_}
-use mathlib.Core.Bool.{Bool, true, false}
+use mathlib.Core.Path.{_≡_, ap₂, _∙_}
+use mathlib.Core.Bool.{Bool}
 use mathlib.Core.List.{List}
-use Prim.Native.Nat.{ℕ, _+_, _-_}
-use lib.ListN.{length}
-use Rattle.acorn_model.specs.Bits.{Bits, AreBytes, _⊕_, bitsIn}
-use Rattle.acorn_model.specs.Stretches.{tagLength, tagBits, textPiece, final, keystream, textOut, tagOf}
-use Rattle.acorn_model.specs.Paper.{textBitOut, tagBit, ciphertext, tag, decrypted, newTag}
-use Rattle.acorn_model.proofs.Bytes.{bytes-length, bytes-are-bytes}
+use Prim.Native.Nat.{ℕ, _+_}
+use lib.ListN.{length, length-append}
+use Rattle.acorn_model.specs.Bits.{Bits, AreBytes}
+use Rattle.acorn_model.specs.Stretches.{tagLength, textOut, tagOf}
+use Rattle.acorn_model.specs.Paper.{ciphertext, tag, decrypted, newTag}
+use Rattle.acorn_model.specs.Message.{sealed}
+use Rattle.acorn_model.proofs.Bytes.{bytes-length, bytes-are-bytes, append-are-bytes}
 
 -- ## The stretches
 
 module _ (opening : Bool) (piece : List ℕ) (S : Bits) where
   pub textOut-length : length (textOut opening piece S) ≡ length piece
   unfolding textOut
-  textOut-length = bytes-length (length piece) (λ j. bitsIn piece j ⊕ keystream (textPiece opening piece) S j)
+  textOut-length = bytes-length (length piece) _
 
   pub textOut-are-bytes : AreBytes (textOut opening piece S)
   unfolding textOut
-  textOut-are-bytes = bytes-are-bytes (length piece) (λ j. bitsIn piece j ⊕ keystream (textPiece opening piece) S j)
+  textOut-are-bytes = bytes-are-bytes (length piece) _
 
 module _ (S : Bits) where
   pub tagOf-length : length (tagOf S) ≡ tagLength
   unfolding tagOf
-  tagOf-length = bytes-length tagLength (λ j. keystream final S (768 - tagBits + j))
+  tagOf-length = bytes-length tagLength _
 
   pub tagOf-are-bytes : AreBytes (tagOf S)
   unfolding tagOf
-  tagOf-are-bytes = bytes-are-bytes tagLength (λ j. keystream final S (768 - tagBits + j))
+  tagOf-are-bytes = bytes-are-bytes tagLength _
 
 -- ## The paper
 
 module _ (key nonce «data» : List ℕ) where
   pub ciphertext-length : (text : List ℕ) → length (ciphertext key nonce «data» text) ≡ length text
   unfolding ciphertext
-  ciphertext-length text = bytes-length (length text) (textBitOut false key nonce «data» text)
+  ciphertext-length text = bytes-length (length text) _
 
   pub ciphertext-are-bytes : (text : List ℕ) → AreBytes (ciphertext key nonce «data» text)
   unfolding ciphertext
-  ciphertext-are-bytes text = bytes-are-bytes (length text) (textBitOut false key nonce «data» text)
+  ciphertext-are-bytes text = bytes-are-bytes (length text) _
 
   pub decrypted-length : (cipher : List ℕ) → length (decrypted key nonce «data» cipher) ≡ length cipher
   unfolding decrypted
-  decrypted-length cipher = bytes-length (length cipher) (textBitOut true key nonce «data» cipher)
+  decrypted-length cipher = bytes-length (length cipher) _
 
   pub decrypted-are-bytes : (cipher : List ℕ) → AreBytes (decrypted key nonce «data» cipher)
   unfolding decrypted
-  decrypted-are-bytes cipher = bytes-are-bytes (length cipher) (textBitOut true key nonce «data» cipher)
+  decrypted-are-bytes cipher = bytes-are-bytes (length cipher) _
 
   pub tag-length : (text : List ℕ) → length (tag key nonce «data» text) ≡ tagLength
   unfolding tag
-  tag-length text = bytes-length tagLength (tagBit false key nonce «data» text)
+  tag-length text = bytes-length tagLength _
 
   pub tag-are-bytes : (text : List ℕ) → AreBytes (tag key nonce «data» text)
   unfolding tag
-  tag-are-bytes text = bytes-are-bytes tagLength (tagBit false key nonce «data» text)
+  tag-are-bytes text = bytes-are-bytes tagLength _
 
   pub newTag-length : (cipher : List ℕ) → length (newTag key nonce «data» cipher) ≡ tagLength
   unfolding newTag
-  newTag-length cipher = bytes-length tagLength (tagBit true key nonce «data» cipher)
+  newTag-length cipher = bytes-length tagLength _
 
   pub newTag-are-bytes : (cipher : List ℕ) → AreBytes (newTag key nonce «data» cipher)
   unfolding newTag
-  newTag-are-bytes cipher = bytes-are-bytes tagLength (tagBit true key nonce «data» cipher)
+  newTag-are-bytes cipher = bytes-are-bytes tagLength _
 
   -- ## Sealed bytes
 

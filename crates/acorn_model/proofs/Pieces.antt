@@ -28,13 +28,12 @@ module _ (opening cb : Bool) where
 
   module _ (l k : List ℕ) (S : Bits) where
     pub run-left : (j : ℕ) → j ≤ 8 * length l → run (inputs (pieceOf opening cb (l ++ k))) j S ≡ run (inputs (pieceOf opening cb l)) j S
-    run-left j h = run-same (inputs (pieceOf opening cb (l ++ k))) (inputs (pieceOf opening cb l)) j S (λ i m. ap bitInput (bits-left l k i (omega arith)))
+    run-left j h = run-same _ _ j S (λ i m. ap bitInput (bits-left l k i (omega arith)))
 
     pub run-right : (j : ℕ) → run (inputs (pieceOf opening cb (l ++ k))) (8 * length l + j) S ≡ run (inputs (pieceOf opening cb k)) j (through (pieceOf opening cb l) S)
     unfolding through
     run-right j =
-        run-on (inputs (pieceOf opening cb (l ++ k))) (inputs (pieceOf opening cb k)) (8 * length l) j S (run (inputs (pieceOf opening cb l)) (8 * length l) S) (run-left (8 * length l) (omega arith))
-        (λ i m. ap bitInput (bits-right l k i))
+        run-on _ _ (8 * length l) j S _ (run-left (8 * length l) (omega arith)) (λ i m. ap bitInput (bits-right l k i))
 
     pub pieceOf-append : through (pieceOf opening cb (l ++ k)) S ≡ through (pieceOf opening cb k) (through (pieceOf opening cb l) S)
     unfolding through
@@ -78,10 +77,8 @@ module _ (opening : Bool) where
   unfolding textOut keystream
   textOut-append l k S =
       ap (λ (n : ℕ). bytes n both) (length-append l k) ∙ bytes-add (length l) (length k) both
-      ∙ ap₂ _++_ (bytes-same (length l) both (λ j. bitsIn l j ⊕ keystreamBit (run (inputs (textPiece opening l)) j S))
-      (λ j h. ap₂ _⊕_ (bits-left l k j h) (ap keystreamBit (run-left opening false l k S j (omega arith)))))
-      (bytes-same (length k) (λ j. both (8 * length l + j)) (λ j. bitsIn k j ⊕ keystreamBit (run (inputs (textPiece opening k)) j (through (textPiece opening l) S)))
-      (λ j h. ap₂ _⊕_ (bits-right l k j) (ap keystreamBit (run-right opening false l k S j))))
+      ∙ ap₂ _++_ (bytes-same (length l) _ _ (λ j h. ap₂ _⊕_ (bits-left l k j h) (ap keystreamBit (run-left opening false l k S j (omega arith)))))
+      (bytes-same (length k) _ _ (λ j h. ap₂ _⊕_ (bits-right l k j) (ap keystreamBit (run-right opening false l k S j))))
     where
       both : Bits
       both j = bitsIn (l ++ k) j ⊕ keystreamBit (run (inputs (textPiece opening (l ++ k))) j S)

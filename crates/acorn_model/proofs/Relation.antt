@@ -1,4 +1,5 @@
--- The functions are as the paper's relation says, and what the relation allows a text to be encrypted to, or a ciphertext to be decrypted to, is what they give.
+-- The paper's functions are as its relation says, and the relation allows nothing else: what a text is encrypted to by it, and a ciphertext
+-- decrypted to, is what the functions give.
 use mathlib.Core.Path.{_≡_, refl, sym, ap, ap₂, _∙_, subst}
 use mathlib.Core.Bool.{Bool, false}
 use mathlib.Core.List.{List}
@@ -54,14 +55,12 @@ module _ (key nonce «data» : List ℕ) where
 
     only-ciphertext : bytes (length text) c ≡ ciphertext key nonce «data» text
     only-ciphertext =
-        bytes-same (length text) c (λ j. bitsIn text j ⊕ keystreamBit (run g (1792 + (A + 256 + j)) zeros))
-        (λ j l. e .c-is j l ∙ ap₂ _⊕_ (p-is j l) (keystream-bits (1792 + (A + 256 + j)) (omega arith)))
+        bytes-same (length text) _ _ (λ j l. e .c-is j l ∙ ap₂ _⊕_ (p-is j l) (keystream-bits (1792 + (A + 256 + j)) (omega arith)))
         ∙ sym (text-of-run false key nonce «data» text g (λ ks. p) (λ ks. p-is) (λ ks. e .schedule)) ∙ ciphertext-agrees key nonce «data» text
 
     only-tag : bytes tagLength T ≡ tag key nonce «data» text
     only-tag =
-        bytes-same tagLength T (λ j. keystreamBit (run g (1792 + (A + P + 1279 - tagBits + 1 + j)) zeros))
-        (λ j l. e .T-is j l ∙ keystream-bits (1792 + (A + P + 1279 - tagBits + 1 + j)) (omega arith))
+        bytes-same tagLength _ _ (λ j l. e .T-is j l ∙ keystream-bits (1792 + (A + P + 1279 - tagBits + 1 + j)) (omega arith))
         ∙ sym (tag-of-run false key nonce «data» text g (λ ks. p) (λ ks. p-is) (λ ks. e .schedule)) ∙ tag-agrees key nonce «data» text
 
   pub sealing-only : (text : List ℕ) (c T : Bits) → ByPaper key nonce «data» (length text) (bitsIn text) c T
@@ -107,8 +106,8 @@ module _ (key nonce «data» : List ℕ) where
         ks-is = λ i r. refl;
         S-shifts = λ i r j k. ap (λ (R : Bits). R j) (run-next g i zeros) ∙ step-shifts _ _ _ (run g i zeros) j (omega arith) ∙ ap (lfsrUpdate (run g i zeros)) (omega arith);
         S-new = λ i r. ap (λ (R : Bits). R 292) (run-next g i zeros) ∙ step-new _ _ _ (run g i zeros);
-        c-is = bits-of-bytes (length text) (textBitOut false key nonce «data» text);
-        T-is = bits-of-bytes tagLength (tagBit false key nonce «data» text);
+        c-is = bits-of-bytes (length text) _;
+        T-is = bits-of-bytes tagLength _;
       }
     where
       g : ℕ → StepInput

@@ -1,4 +1,4 @@
--- Laws of runs: a run goes by what its own steps take, and goes on where another ended.
+-- Laws of runs: a run depends on what its own steps take alone, and a run of a + b steps is one of a and then one of b.
 use mathlib.Core.Path.{_≡_, refl, ap, _∙_, fun-ext}
 use mathlib.Core.Bool.{Bool}
 use Prim.Native.Nat.{ℕ, zero, suc, _+_, _<_}

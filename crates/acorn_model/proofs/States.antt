@@ -6,18 +6,18 @@ use mathlib.Core.Logic.{⊎-elim}
 use Prim.Native.Nat.{ℕ, zero, suc, _≤_, _<_}
 use native.Mathlib.Omega.{arith}
 use lib.Dec.{eqb}
-use borrow.Author.Tests.{ne-eqb}
 use Rattle.acorn_model.specs.Bits.{Bits, _⊕_, _if_else_}
 use Rattle.acorn_model.specs.Step.{_⊕=_and_, lfsrUpdate, ksg128, fbk128, keystreamBit, feedbackBit, step, StepInput, stepOn, run}
 use Rattle.acorn_model.specs.Stretches.{Stretch, inputs, through, keystream, textPiece, textOut, final, tagOf}
 use Rattle.acorn_model.proofs.Numbers.{lt-or-ge}
+use Rattle.acorn_model.proofs.Choices.{if-unequal}
 
 -- ## One step
 
 module _ (ca cb m : Bool) (S : Bits) where
   pub step-shifts : (q : ℕ) → q < 292 → step ca cb m S q ≡ lfsrUpdate S (suc q)
   unfolding step
-  step-shifts q l = rw (ne-eqb q 292 (omega arith))
+  step-shifts q l = if-unequal q _ (omega arith) refl
 
   pub step-new : step ca cb m S 292 ≡ feedbackBit ca cb S ⊕ m
   unfolding step
@@ -42,18 +42,18 @@ module _ (S R : Bits) (h : Same S R) where
   pub same-lfsrUpdate : Same (lfsrUpdate S) (lfsrUpdate R)
   unfolding lfsrUpdate
   same-lfsrUpdate =
-      same-⊕= 61 23 0 _ _ (omega arith) (omega arith) (omega arith)
-      (same-⊕= 107 66 61 _ _ (omega arith) (omega arith) (omega arith)
-      (same-⊕= 154 111 107 _ _ (omega arith) (omega arith) (omega arith)
-      (same-⊕= 193 160 154 _ _ (omega arith) (omega arith) (omega arith)
-      (same-⊕= 230 196 193 _ _ (omega arith) (omega arith) (omega arith)
-      (same-⊕= 289 235 230 S R (omega arith) (omega arith) (omega arith) h)))))
+      same-⊕= _ _ _ _ _ (omega arith) (omega arith) (omega arith)
+      (same-⊕= _ _ _ _ _ (omega arith) (omega arith) (omega arith)
+      (same-⊕= _ _ _ _ _ (omega arith) (omega arith) (omega arith)
+      (same-⊕= _ _ _ _ _ (omega arith) (omega arith) (omega arith)
+      (same-⊕= _ _ _ _ _ (omega arith) (omega arith) (omega arith)
+      (same-⊕= _ _ _ _ _ (omega arith) (omega arith) (omega arith) h)))))
 
-  same-ksg128 : ksg128 S ≡ ksg128 R
+  pub same-ksg128 : ksg128 S ≡ ksg128 R
   unfolding ksg128
   same-ksg128 = rw (h 12 (omega arith), h 154 (omega arith), h 235 (omega arith), h 61 (omega arith), h 193 (omega arith), h 230 (omega arith), h 111 (omega arith), h 66 (omega arith))
 
-  same-fbk128 : (ca cb ks : Bool) → fbk128 ca cb ks S ≡ fbk128 ca cb ks R
+  pub same-fbk128 : (ca cb ks : Bool) → fbk128 ca cb ks S ≡ fbk128 ca cb ks R
   unfolding fbk128
   same-fbk128 ca cb ks = rw (h 0 (omega arith), h 107 (omega arith), h 244 (omega arith), h 23 (omega arith), h 160 (omega arith), h 196 (omega arith))
 

@@ -1,4 +1,4 @@
--- Whole opening: the tag matches and a text comes out exactly of the text's own sealing.
+-- Whole opening: the tag matches and a text comes out exactly where the sealed bytes are that text sealed.
 use mathlib.Core.Path.{_≡_, sym, ap, ap₂, _∙_}
 use mathlib.Core.Bool.{true}
 use mathlib.Core.List.{List, _++_}
@@ -19,7 +19,7 @@ use Rattle.acorn_model.proofs.Inverse.{opens-exactly}
 module _ (key nonce «data» : List ℕ) where
   parts : (text : List ℕ) → length (ciphertext key nonce «data» text) ≡ length (sealed key nonce «data» text) - tagLength
   unfolding sealed
-  parts text = omega (arith, length-append (ciphertext key nonce «data» text) (tag key nonce «data» text), tag-length key nonce «data» text)
+  parts text = simp length-append (omega (arith, tag-length key nonce «data» text))
 
   pub cipher-part : (text : List ℕ) → cipherPart (sealed key nonce «data» text) ≡ ciphertext key nonce «data» text
   unfolding sealed

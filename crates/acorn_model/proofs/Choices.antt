@@ -1,0 +1,19 @@
+-- A choice by a test of numbers, `a if ltb i n else b` or `a if eqb i n else b`: which of the two it is.
+use mathlib.Core.Path.{_≡_}
+use Prim.Native.Nat.{ℕ, _≤_, _<_}
+use lib.Dec.{eqb, ltb}
+use borrow.Author.Tests.{lt-ltb, le-ltb, eq-eqb, ne-eqb}
+use Rattle.acorn_model.specs.Bits.{_if_else_}
+
+module _ {A : Type 0} (i : ℕ) {n : ℕ} where
+  pub if-below : {a c : A} (b : A) → i < n → a ≡ c → (a if ltb i n else b) ≡ c
+  if-below b h e = rw (lt-ltb i n h) e
+
+  pub if-past : {b c : A} (a : A) → n ≤ i → b ≡ c → (a if ltb i n else b) ≡ c
+  if-past a h e = rw (le-ltb i n h) e
+
+  pub if-equal : {a c : A} (b : A) → i ≡ n → a ≡ c → (a if eqb i n else b) ≡ c
+  if-equal b h e = rw (eq-eqb i n h) e
+
+  pub if-unequal : {b c : A} (a : A) → (i ≡ n → ⊥) → b ≡ c → (a if eqb i n else b) ≡ c
+  if-unequal a h e = rw (ne-eqb i n h) e
