@@ -1,4 +1,4 @@
--- The listing's numbers read back as they are, and document 01's example comes out.
+-- The listing's numbers are decimal digits that read back as the number, and document 01's example comes out.
 use mathlib.Core.Path.{_≡_, refl, ap, _∙_}
 use mathlib.Core.Bool.{Bool, true, false}
 use mathlib.Core.List.{List, [], _∷_, _++_}
@@ -6,30 +6,81 @@ use Prim.Native.Nat.{ℕ, zero, suc, _+_, _-_, _*_, _/_, _%_, _^_, _≤_, _<_}
 use native.Mathlib.Nat.{pow-suc}
 use native.Mathlib.Omega.{arith}
 use lib.Dec.{ltb}
-use borrow.Author.Tests.{ltb-false}
+use lib.ListN.{length, getD}
+use borrow.Author.Tests.{ltb-true, ltb-false}
 use Rattle.acorn_model.specs.Bits.{_if_else_}
 use Rattle.tape_model.specs.Ticket.{net}
 use Rattle.tape_model.specs.Tape.{totalNet}
-use Rattle.tape_model.specs.Listing.{decimalBelow, numbers, headLine, ticketLine, ticketLines, totalLine, listed}
+use Rattle.tape_model.specs.Listing.{decimalBelow, numbers, headLine, ticketLine, ticketLines, totalLine, listed, listingUnless, listing}
 use Rattle.tape_model.specs.Laws.{valueAfter, ListingLaws}
+
+-- what holds of one digit, and of more, holds of a number's digits
+by-digits : (P : List ℕ → Type 0) (k n : ℕ) → (n < 10 → P ((0x30 + n) ∷ [])) → (10 ≤ n → P (decimalBelow k (n / 10) ++ ((0x30 + n % 10) ∷ []))) → P (decimalBelow (suc k) n)
+unfolding decimalBelow
+by-digits P k n one more = chosen (ltb n 10) (λ e. one (ltb-true n 10 e)) (λ e. more (ltb-false n 10 e))
+  where
+    chosen : (t : Bool) → (t ≡ true → P ((0x30 + n) ∷ [])) → (t ≡ false → P (decimalBelow k (n / 10) ++ ((0x30 + n % 10) ∷ [])))
+        → P (((0x30 + n) ∷ []) if t else (decimalBelow k (n / 10) ++ ((0x30 + n % 10) ∷ [])))
+    chosen true a b = a refl
+    chosen false a b = b refl
+
+-- ## Digits
+
+abbrev IsDigit : ℕ → Type 0
+IsDigit d = (0x30 ≤ d) × (d ≤ 0x39)
+
+abbrev AllDigits : List ℕ → Type 0
+AllDigits ds = (i : ℕ) → i < length ds → IsDigit (getD ds i 0)
+
+one-digit : (d : ℕ) → d < 10 → AllDigits ((0x30 + d) ∷ [])
+one-digit d h zero b = omega arith
+one-digit d h (suc i) b = absurd (omega arith)
+
+digits-append : (ds es : List ℕ) → AllDigits ds → AllDigits es → AllDigits (ds ++ es)
+digits-append [] es h g i b = g i b
+digits-append (d ∷ ds) es h g zero b = h 0 (omega arith)
+digits-append (d ∷ ds) es h g (suc i) b = digits-append ds es (λ j c. h (suc j) (omega arith)) g i (omega arith)
+
+all-digits : (k n : ℕ) → n < 10 ^ k → AllDigits (decimalBelow k n)
+all-digits zero n h = unfold decimalBelow in λ i b. absurd (omega arith)
+all-digits (suc k) n h =
+    by-digits AllDigits k n (one-digit n)
+    (λ l. digits-append (decimalBelow k (n / 10)) ((0x30 + n % 10) ∷ []) (all-digits k (n / 10) (omega (arith, pow-suc 10 k))) (one-digit (n % 10) (omega arith)))
+
+-- ## No leading zero
+
+first-kept : (ds es : List ℕ) → 0x30 < getD ds 0 0 → 0x30 < getD (ds ++ es) 0 0
+first-kept [] es h = absurd (omega arith)
+first-kept (d ∷ ds) es h = h
+
+no-leading-zero : (k n : ℕ) → n < 10 ^ k → 0 < n → 0x30 < getD (decimalBelow k n) 0 0
+no-leading-zero zero n h p = absurd (omega arith)
+no-leading-zero (suc k) n h p =
+    by-digits (λ ds. 0x30 < getD ds 0 0) k n (λ l. omega arith)
+    (λ l. first-kept (decimalBelow k (n / 10)) ((0x30 + n % 10) ∷ []) (no-leading-zero k (n / 10) (omega (arith, pow-suc 10 k)) (omega arith)))
+
+-- ## The value
 
 value-last : (a d : ℕ) (ds : List ℕ) → valueAfter a (ds ++ (d ∷ [])) ≡ 10 * valueAfter a ds + (d - 0x30)
 value-last a d [] = refl
 value-last a d (e ∷ ds) = value-last (10 * a + (e - 0x30)) d ds
 
--- a last digit behind digits that make n / 10, or a digit alone
-digit-added : (b : Bool) (n : ℕ) (ds : List ℕ) → ltb n 10 ≡ b → (10 ≤ n → valueAfter 0 ds ≡ n / 10)
-    → valueAfter 0 (((0x30 + n) ∷ []) if b else (ds ++ ((0x30 + n % 10) ∷ []))) ≡ n
-digit-added true n ds e h = omega arith
-digit-added false n ds e h =
-    value-last 0 (0x30 + n % 10) ds ∙ ap (λ (x : ℕ). 10 * x + (0x30 + n % 10 - 0x30)) (h (ltb-false n 10 e)) ∙ omega arith
+value-of-digits : (k n : ℕ) → n < 10 ^ k → valueAfter 0 (decimalBelow k n) ≡ n
+value-of-digits zero n h = unfold decimalBelow in omega arith
+value-of-digits (suc k) n h =
+    by-digits (λ ds. valueAfter 0 ds ≡ n) k n (λ l. omega arith)
+    (λ l. value-last 0 (0x30 + n % 10) (decimalBelow k (n / 10))
+    ∙ ap (λ (x : ℕ). 10 * x + (0x30 + n % 10 - 0x30)) (value-of-digits k (n / 10) (omega (arith, pow-suc 10 k))) ∙ omega arith)
 
-digits-below : (k n : ℕ) → n < 10 ^ k → valueAfter 0 (decimalBelow k n) ≡ n
-unfolding decimalBelow
-digits-below zero n h = omega arith
-digits-below (suc k) n h =
-    digit-added (ltb n 10) n (decimalBelow k (n / 10)) refl (λ l. digits-below k (n / 10) (omega (arith, pow-suc 10 k)))
+-- ## All of it
 
 pub listing-laws : ListingLaws
-unfolding listed headLine ticketLines ticketLine totalLine numbers decimalBelow net totalNet
-listing-laws = record { digits = digits-below 20; example = refl }
+unfolding listing listingUnless listed headLine ticketLines ticketLine totalLine numbers decimalBelow net totalNet
+listing-laws =
+    record {
+      digits = all-digits 20;
+      leading = no-leading-zero 20;
+      value = value-of-digits 20;
+      refusal = λ key tape n e. ap (λ (x : ℕ). listingUnless x key tape) e;
+      example = refl;
+    }

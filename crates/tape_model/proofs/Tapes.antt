@@ -11,10 +11,9 @@ use borrow.Author.Tests.{le-leb, lt-leb, le-ltb, eq-eqb}
 use Rattle.acorn_model.specs.Bits.{_if_else_, AreBytes}
 use Rattle.acorn_model.specs.Calls.{Reply, refused, done, accepted, unlessRefused, writtenOver}
 use Rattle.acorn_model.specs.Machine.{keyLength}
-use Rattle.acorn_model.specs.Paper.{ciphertext, tag}
 use Rattle.acorn_model.specs.Message.{resultOf, sealed, tagMatches, opened}
 use Rattle.acorn_model.proofs.Bytes.{append-are-bytes}
-use Rattle.acorn_model.proofs.Outputs.{ciphertext-length, tag-length, sealed-are-bytes}
+use Rattle.acorn_model.proofs.Outputs.{sealed-length, sealed-are-bytes}
 use Rattle.acorn_model.proofs.Proved.{opening-exact}
 use Rattle.tape_model.specs.declared.Ticket.{Ticket}
 use Rattle.tape_model.specs.declared.Head.{Head}
@@ -117,15 +116,15 @@ module _ (key : List ℕ) (head : Head) (ts : List Ticket) (k : length key ≡ k
   abbrev nonce : List ℕ
   nonce = nonceOf (packHead head)
 
-  sealed-length : length (sealed key nonce (packHead head) (packTickets ts)) ≡ 13 * length ts + 16
-  unfolding sealed
-  sealed-length =
-      omega (arith, length-append (ciphertext key nonce (packHead head) (packTickets ts)) (tag key nonce (packHead head) (packTickets ts)),
-      ciphertext-length key nonce (packHead head) (packTickets ts), tag-length key nonce (packHead head) (packTickets ts), tickets-length ts)
-
   size : length tape ≡ 25 + 13 * length ts
   unfolding tapeOf
-  size = omega (arith, length-append (packHead head) (sealed key nonce (packHead head) (packTickets ts)), head-length head, sealed-length)
+  size = omega (
+    arith,
+    length-append (packHead head) (sealed key nonce (packHead head) (packTickets ts)),
+    head-length head,
+    sealed-length key nonce (packHead head) (packTickets ts),
+    tickets-length ts,
+  )
 
   head-part : headBytes tape ≡ packHead head
   unfolding tapeOf
@@ -186,7 +185,7 @@ module _ (key : List ℕ) (head : Head) (ts : List Ticket) (k : length key ≡ k
   unfolding printed listing listingUnless listed
   lists =
       ap₂ listing (take-at key tape keyLength k) (drop-at key tape keyLength k)
-      ∙ ap (λ (x : ℕ). listingUnless x key tape) (no-refusal (replicate (length tape) 0) (omega (arith, length-replicate (length tape) {A = ℕ} 0, size)))
+      ∙ ap (λ (x : ℕ). listingUnless x key tape) (no-refusal (replicate (length tape) 0) (omega (arith, length-replicate {A = ℕ} (length tape) 0, size)))
       ∙ ap₂ (λ (x : Reply Head) (y : Reply (List Ticket)). listed x (ticketsIn y)) opens-head unpacks
 
   laws : TapeLaws key head ts

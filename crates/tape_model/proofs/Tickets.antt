@@ -12,9 +12,10 @@ use Rattle.tape_model.specs.declared.Ticket.{Ticket}
 use Rattle.tape_model.specs.declared.Head.{Head}
 use Rattle.tape_model.specs.Format.{widths, inRanges, cut}
 use Rattle.tape_model.specs.Ticket.{form1, ticketLength, ticketValues, ticketOf, ordered, valuesRule, ticketRule, packTicket, unpackTicket, headFormat, headLength, headValues, headOf, headRule, packHead, unpackHead}
-use Rattle.tape_model.specs.Laws.{Inverse}
-use Rattle.tape_model.proofs.Ranges.{both, InRanges, in-ranges, pack-bytes}
-use Rattle.tape_model.proofs.Inverses.{Laid, inverse}
+use Rattle.tape_model.specs.Laws.{Inverse, TicketLaws}
+use Rattle.tape_model.proofs.Ranges.{both, InRanges, in-ranges, ranges-fit, pack-bytes}
+use Rattle.tape_model.proofs.BitByBit.{bit-by-bit}
+use Rattle.tape_model.proofs.Inverses.{Laid, inverse, injective}
 
 -- ## The rules
 
@@ -85,3 +86,19 @@ head-length h = refl
 pub head-bytes : (h : Head) → AreBytes (packHead h)
 unfolding packHead
 head-bytes h = pack-bytes (widths headFormat) headLength (headValues h)
+
+-- ## All of it
+
+pub ticket-laws : TicketLaws
+unfolding packTicket packHead
+ticket-laws =
+    record {
+      tickets = ticket-inverse;
+      heads = head-inverse;
+      ticket-bits = λ t h. bit-by-bit (widths form1) ticketLength (ticketValues t) refl (ranges-fit form1 (ticketValues t) (ticket-laid .roomy) (ticket-rule t h .0));
+      ticket-width = refl;
+      head-bits = λ d h. bit-by-bit (widths headFormat) headLength (headValues d) refl (ranges-fit headFormat (headValues d) (head-laid .roomy) (head-rule d h));
+      head-width = refl;
+      ticket-injective = injective ticket-inverse;
+      head-injective = injective head-inverse;
+    }
