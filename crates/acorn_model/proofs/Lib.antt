@@ -1,9 +1,9 @@
-pub mod StepCases
+pub mod Choices
 pub mod Numbers
 pub mod Bytes
-pub mod Choices
 pub mod Runs
 pub mod States
+pub mod StepCases
 pub mod Outputs
 pub mod Scheduled
 pub mod Agree

@@ -1,8 +1,9 @@
 -- What comes out, by the stretches and by the paper: how many bytes it is, and that they are bytes.
-use mathlib.Core.Path.{_≡_, ap₂, _∙_}
+use mathlib.Core.Path.{_≡_}
 use mathlib.Core.Bool.{Bool}
 use mathlib.Core.List.{List}
 use Prim.Native.Nat.{ℕ, _+_}
+use native.Mathlib.Omega.{arith}
 use lib.ListN.{length, length-append}
 use Rattle.acorn_model.specs.Bits.{Bits, AreBytes}
 use Rattle.acorn_model.specs.Stretches.{tagLength, textOut, tagOf}
@@ -69,9 +70,8 @@ module _ (key nonce «data» : List ℕ) where
 
   pub sealed-length : (text : List ℕ) → length (sealed key nonce «data» text) ≡ length text + tagLength
   unfolding sealed
-  sealed-length text =
-      length-append (ciphertext key nonce «data» text) (tag key nonce «data» text) ∙ ap₂ _+_ (ciphertext-length text) (tag-length text)
+  sealed-length text = simp length-append (omega (arith, ciphertext-length text, tag-length text))
 
   pub sealed-are-bytes : (text : List ℕ) → AreBytes (sealed key nonce «data» text)
   unfolding sealed
-  sealed-are-bytes text = append-are-bytes (ciphertext key nonce «data» text) (tag key nonce «data» text) (ciphertext-are-bytes text) (tag-are-bytes text)
+  sealed-are-bytes text = search (append-are-bytes, ciphertext-are-bytes, tag-are-bytes)

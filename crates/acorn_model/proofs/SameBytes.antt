@@ -6,15 +6,12 @@ use Prim.Native.Nat.{ℕ}
 use lib.Dec.{eqb}
 use borrow.Author.Tests.{eq-eqb, eqb-true}
 use Rattle.acorn_model.specs.Calls.{sameBytes}
+use Rattle.acorn_model.proofs.Choices.{both}
 
 pub same-bytes-refl : (l : List ℕ) → sameBytes l l ≡ true
 unfolding sameBytes
 same-bytes-refl [] = refl
 same-bytes-refl (x ∷ l) = rw (eq-eqb x x refl) (same-bytes-refl l)
-
-both : (a b : Bool) → (a && b) ≡ true → (a ≡ true) × (b ≡ true)
-both true b h = (refl, h)
-both false b h = absurd (false≢true h)
 
 pub same-bytes-true : (l k : List ℕ) → sameBytes l k ≡ true → l ≡ k
 unfolding sameBytes

@@ -1,11 +1,12 @@
 -- One step by its bits, and states with the same bits 0 to 292: steps, runs and what comes out are the same on them.
-use mathlib.Core.Path.{_≡_, refl, sym, ap, ap₂, _∙_}
-use mathlib.Core.Bool.{Bool}
+use mathlib.Core.Path.{_≡_, refl, sym, ap, ap₂, _∙_, fun-ext}
+use mathlib.Core.Bool.{Bool, true, false}
 use mathlib.Core.List.{List}
 use mathlib.Core.Logic.{⊎-elim}
 use Prim.Native.Nat.{ℕ, zero, suc, _≤_, _<_}
 use native.Mathlib.Omega.{arith}
-use lib.Dec.{eqb}
+use lib.Dec.{leb, eqb}
+use borrow.Author.Tests.{le-leb, leb-true}
 use Rattle.acorn_model.specs.Bits.{Bits, _⊕_, _if_else_}
 use Rattle.acorn_model.specs.Step.{_⊕=_and_, lfsrUpdate, ksg128, fbk128, keystreamBit, feedbackBit, step, StepInput, stepOn, run}
 use Rattle.acorn_model.specs.Stretches.{Stretch, inputs, through, keystream, textPiece, textOut, final, tagOf}
@@ -34,28 +35,33 @@ module _ (ca cb m : Bool) (S : Bits) where
 abbrev pub Same : Bits → Bits → Type 0
 Same S R = (q : ℕ) → q ≤ 292 → S q ≡ R q
 
-same-⊕= : (p a b : ℕ) (S R : Bits) → p ≤ 292 → a ≤ 292 → b ≤ 292 → Same S R → Same ((p ⊕= a and b) S) ((p ⊕= a and b) R)
-unfolding _⊕=_and_
-same-⊕= p a b S R hp ha hb h q l = ap₂ (λ (x y : Bool). x if eqb q p else y) (ap₂ _⊕_ (h p hp) (ap₂ _⊕_ (h a ha) (h b hb))) (h q l)
+-- the 293 bits of S, and nothing above them
+abbrev low : Bits → Bits
+low S q = S q if leb q 292 else false
+
+low-update : (S : Bits) (q : ℕ) → q ≤ 292 → lfsrUpdate (low S) q ≡ lfsrUpdate S q
+unfolding lfsrUpdate _⊕=_and_
+low-update S q l = rw (le-leb q 292 l)
 
 module _ (S R : Bits) (h : Same S R) where
-  pub same-lfsrUpdate : Same (lfsrUpdate S) (lfsrUpdate R)
-  unfolding lfsrUpdate
-  same-lfsrUpdate =
-      same-⊕= _ _ _ _ _ (omega arith) (omega arith) (omega arith)
-      (same-⊕= _ _ _ _ _ (omega arith) (omega arith) (omega arith)
-      (same-⊕= _ _ _ _ _ (omega arith) (omega arith) (omega arith)
-      (same-⊕= _ _ _ _ _ (omega arith) (omega arith) (omega arith)
-      (same-⊕= _ _ _ _ _ (omega arith) (omega arith) (omega arith)
-      (same-⊕= _ _ _ _ _ (omega arith) (omega arith) (omega arith) h)))))
+  low-same : low S ≡ low R
+  low-same = fun-ext (λ q. chosen q (leb q 292) refl)
+    where
+      chosen : (q : ℕ) (t : Bool) → leb q 292 ≡ t → (S q if t else false) ≡ (R q if t else false)
+      chosen q true e = h q (leb-true q 292 e)
+      chosen q false e = refl
 
+  pub same-lfsrUpdate : Same (lfsrUpdate S) (lfsrUpdate R)
+  same-lfsrUpdate q l = sym (low-update S q l) ∙ ap (λ (T : Bits). lfsrUpdate T q) low-same ∙ low-update R q l
+
+  -- what is read at fixed places is read of the 293 bits
   pub same-ksg128 : ksg128 S ≡ ksg128 R
   unfolding ksg128
-  same-ksg128 = rw (h 12 (omega arith), h 154 (omega arith), h 235 (omega arith), h 61 (omega arith), h 193 (omega arith), h 230 (omega arith), h 111 (omega arith), h 66 (omega arith))
+  same-ksg128 = ap ksg128 low-same
 
   pub same-fbk128 : (ca cb ks : Bool) → fbk128 ca cb ks S ≡ fbk128 ca cb ks R
   unfolding fbk128
-  same-fbk128 ca cb ks = rw (h 0 (omega arith), h 107 (omega arith), h 244 (omega arith), h 23 (omega arith), h 160 (omega arith), h 196 (omega arith))
+  same-fbk128 ca cb ks = ap (fbk128 ca cb ks) low-same
 
 module _ (S R : Bits) (h : Same S R) where
   pub same-keystreamBit : keystreamBit S ≡ keystreamBit R

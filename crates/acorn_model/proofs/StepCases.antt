@@ -6,6 +6,7 @@ use Prim.Native.Nat.{ℕ}
 use Rattle.acorn_model.specs.Bits.{Bits}
 use Rattle.acorn_model.specs.Step.{_⊕=_and_, lfsrUpdate, maj, ch, ksg128, fbk128, keystreamBit, feedbackBit, step}
 use Rattle.acorn_model.specs.StepCases.{Control, set, either, Observation, ks, _is_, StepCase, stateWith, ForEach, Observed, StepHolds, AllSteps, furtherCases}
+use Rattle.acorn_model.proofs.Choices.{both}
 
 -- ## The test
 
@@ -22,10 +23,6 @@ abbrev pub stepHolds : StepCase → Bool
 stepHolds c = forEach (c .ca) (λ ca. forEach (c .cb) (λ cb. seen ca cb (c .m) (stateWith (c .ones)) (c .expected)))
 
 -- ## What it shows
-
-pub both : (a b : Bool) → (a && b) ≡ true → (a ≡ true) × (b ≡ true)
-both true b h = (refl, h)
-both false b h = absurd (false≢true h)
 
 same : (a b : Bool) → Bool·beq a b ≡ true → a ≡ b
 same true true h = refl

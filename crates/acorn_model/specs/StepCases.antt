@@ -47,41 +47,41 @@ abbrev pub AllSteps : List StepCase → Type 0
 AllSteps [] = Unit {0}
 AllSteps (c ∷ cs) = StepHolds c × AllSteps cs
 
--- a case with m = 0 and both controls open
-abbrev pub stepFrom : List ℕ → List Observation → StepCase
-stepFrom ones expected = record { ones = ones; m = false; ca = either; cb = either; expected = expected }
+-- a case with m = 0 and ca open, and cb as given
+abbrev pub stepFrom : List ℕ → Control → List Observation → StepCase
+stepFrom ones cb expected = record { ones = ones; m = false; ca = either; cb = cb; expected = expected }
 
 abbrev pub furtherCases : List StepCase
 furtherCases =
     -- the order of the updates: each reads the next one's bit as it was before that
-    stepFrom (196 ∷ []) (288 is false ∷ [])
-    ∷ stepFrom (160 ∷ []) (229 is false ∷ [])
-    ∷ stepFrom (111 ∷ []) (192 is false ∷ [])
-    ∷ stepFrom (66 ∷ []) (153 is false ∷ [])
-    ∷ stepFrom (0 ∷ []) (106 is false ∷ [])
-    -- each update is made, from both of its places
-    ∷ stepFrom (235 ∷ []) (288 is true ∷ ks false ∷ [])
-    ∷ stepFrom (230 ∷ []) (288 is true ∷ ks false ∷ [])
-    ∷ stepFrom (196 ∷ []) (229 is true ∷ ks false ∷ [])
-    ∷ stepFrom (193 ∷ []) (229 is true ∷ ks false ∷ [])
-    ∷ stepFrom (160 ∷ []) (192 is true ∷ ks false ∷ [])
-    ∷ stepFrom (154 ∷ []) (192 is true ∷ ks true ∷ [])
-    ∷ stepFrom (111 ∷ []) (153 is true ∷ ks true ∷ [])
-    ∷ stepFrom (107 ∷ []) (153 is true ∷ ks true ∷ [])
-    ∷ stepFrom (66 ∷ []) (106 is true ∷ ks true ∷ [])
-    ∷ stepFrom (61 ∷ []) (106 is true ∷ ks false ∷ 292 is false ∷ [])
-    ∷ stepFrom (23 ∷ []) (60 is true ∷ ks false ∷ 292 is true ∷ [])
-    ∷ stepFrom (0 ∷ []) (60 is true ∷ ks false ∷ 292 is false ∷ [])
-    -- ks: S12, maj and ch
-    ∷ stepFrom (12 ∷ []) (ks true ∷ [])
-    ∷ stepFrom (235 ∷ 61 ∷ []) (ks true ∷ [])
-    ∷ stepFrom (235 ∷ 193 ∷ []) (ks true ∷ [])
-    ∷ stepFrom (61 ∷ 193 ∷ []) (ks true ∷ [])
-    ∷ stepFrom (230 ∷ 111 ∷ []) (ks false ∷ [])
-    ∷ stepFrom (230 ∷ 66 ∷ []) (ks false ∷ [])
-    -- f: ~ and maj
-    ∷ stepFrom (244 ∷ []) (292 is true ∷ [])
-    ∷ stepFrom (244 ∷ 23 ∷ []) (292 is false ∷ [])
-    ∷ stepFrom (244 ∷ 160 ∷ []) (292 is false ∷ [])
-    ∷ record { ones = 23 ∷ 160 ∷ []; m = false; ca = either; cb = set false; expected = 292 is false ∷ [] }
+    stepFrom (196 ∷ []) either (288 is false ∷ [])
+    ∷ stepFrom (160 ∷ []) either (229 is false ∷ [])
+    ∷ stepFrom (111 ∷ []) either (192 is false ∷ [])
+    ∷ stepFrom (66 ∷ []) either (153 is false ∷ [])
+    ∷ stepFrom (0 ∷ []) either (106 is false ∷ [])
+    -- each update is made, from both of its places; and the places that ks and f read
+    ∷ stepFrom (235 ∷ []) either (288 is true ∷ ks false ∷ 292 is true ∷ [])
+    ∷ stepFrom (230 ∷ []) either (288 is true ∷ ks false ∷ 292 is true ∷ [])
+    ∷ stepFrom (196 ∷ []) either (229 is true ∷ ks false ∷ [])
+    ∷ stepFrom (193 ∷ []) either (229 is true ∷ ks false ∷ 292 is true ∷ [])
+    ∷ stepFrom (160 ∷ []) either (192 is true ∷ ks false ∷ 292 is true ∷ [])
+    ∷ stepFrom (154 ∷ []) (set false) (192 is true ∷ ks true ∷ 292 is true ∷ [])
+    ∷ stepFrom (111 ∷ []) (set false) (153 is true ∷ ks true ∷ 292 is true ∷ [])
+    ∷ stepFrom (107 ∷ []) (set false) (153 is true ∷ ks true ∷ 292 is false ∷ [])
+    ∷ stepFrom (66 ∷ []) (set false) (106 is true ∷ ks true ∷ 292 is false ∷ [])
+    ∷ stepFrom (61 ∷ []) either (106 is true ∷ ks false ∷ 292 is false ∷ [])
+    ∷ stepFrom (23 ∷ []) either (60 is true ∷ ks false ∷ 292 is true ∷ [])
+    ∷ stepFrom (12 ∷ []) (set false) (ks true ∷ 292 is true ∷ [])
+    ∷ stepFrom (0 ∷ []) either (60 is true ∷ ks false ∷ 292 is false ∷ [])
+    -- maj and ch in ks
+    ∷ stepFrom (235 ∷ 61 ∷ []) either (ks true ∷ [])
+    ∷ stepFrom (235 ∷ 193 ∷ []) either (ks true ∷ [])
+    ∷ stepFrom (61 ∷ 193 ∷ []) either (ks true ∷ [])
+    ∷ stepFrom (230 ∷ 111 ∷ []) either (ks false ∷ [])
+    ∷ stepFrom (230 ∷ 66 ∷ []) either (ks false ∷ [])
+    -- maj in f
+    ∷ stepFrom (244 ∷ []) either (292 is true ∷ [])
+    ∷ stepFrom (244 ∷ 23 ∷ []) either (292 is false ∷ [])
+    ∷ stepFrom (244 ∷ 160 ∷ []) either (292 is false ∷ [])
+    ∷ stepFrom (23 ∷ 160 ∷ []) (set false) (292 is false ∷ [])
     ∷ []

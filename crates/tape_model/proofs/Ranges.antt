@@ -8,12 +8,9 @@ use lib.Dec.{leb}
 use lib.ListN.{length, length-replicate}
 use borrow.Author.Tests.{leb-true}
 use Rattle.acorn_model.specs.Bits.{AreBytes}
+use Rattle.acorn_model.proofs.Choices.{both}
 use Rattle.tape_model.specs.Format.{Field, _bits_to_, widths, inRange, inRanges, join, cut, Fit, byteWidths, pack}
 use Rattle.tape_model.proofs.Widths.{cut-fit}
-
-pub both : (a b : Bool) → (a && b) ≡ true → (a ≡ true) × (b ≡ true)
-both true b h = (refl, h)
-both false b h = absurd (false≢true h)
 
 -- ## Ranges
 

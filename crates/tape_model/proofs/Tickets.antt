@@ -8,12 +8,13 @@ use lib.Dec.{leb, ltb}
 use lib.ListN.{length, getD}
 use borrow.Author.Tests.{leb-true, ltb-true}
 use Rattle.acorn_model.specs.Bits.{AreBytes}
+use Rattle.acorn_model.proofs.Choices.{both}
 use Rattle.tape_model.specs.declared.Ticket.{Ticket}
 use Rattle.tape_model.specs.declared.Head.{Head}
 use Rattle.tape_model.specs.Format.{widths, inRanges, cut}
 use Rattle.tape_model.specs.Ticket.{form1, ticketLength, ticketValues, ticketOf, ordered, valuesRule, ticketRule, packTicket, unpackTicket, headFormat, headLength, headValues, headOf, headRule, packHead, unpackHead}
 use Rattle.tape_model.specs.Laws.{Inverse, TicketLaws}
-use Rattle.tape_model.proofs.Ranges.{both, InRanges, in-ranges, ranges-fit, pack-bytes}
+use Rattle.tape_model.proofs.Ranges.{InRanges, in-ranges, ranges-fit, pack-bytes}
 use Rattle.tape_model.proofs.BitByBit.{bit-by-bit}
 use Rattle.tape_model.proofs.Inverses.{Laid, inverse, injective}
 
