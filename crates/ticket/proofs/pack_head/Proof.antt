@@ -1,0 +1,51 @@
+-- `pack_head` is the packing of heads into lent bytes, refusals included.
+use mathlib.Core.Path.{sym, _∙_}
+use borrow.Author.Needs.{needs}
+use Rattle.acorn_model.specs.Calls.{writtenReply, unlessRefused}
+use Rattle.acorn_model.specs.Message.{resultOf}
+use Rattle.tape_model.specs.Ticket.{packHeadInto}
+use Rattle.tape_model.proofs.Tickets.{head-length}
+use Rattle.ticket.proofs.Writing.{packing-puts}
+use Rattle.ticket.proofs.pack_head.Statement.{statement}
+use Rattle.ticket.proofs.pack_head.Tie as tie
+
+head-valid-requires : tie.Need-head-valid-requires
+head-valid-requires c κs = search needs
+
+packed-head-requires : tie.Need-packed-head-requires
+packed-head-requires c κs = sym (c .before .head-valid .ensures) ∙ c .if1 .taken
+
+slice-aggregate-put : tie.Need-slice-aggregate-put
+slice-aggregate-put c = search needs
+
+put-requires : tie.Need-put-requires
+put-requires c κs = search needs
+
+same-length : tie.Need-same-length
+same-length c = search needs
+
+returns : tie.Need-returns
+unfolding packHeadInto
+returns c =
+    let s = c .before .before .before .before .before .before .before .before .before .args in
+    packing-puts 3 _ _ _ _ (s .out .now) _
+    (sym (c .before .before .before .before .before .before .before .head-valid .ensures) ∙ c .before .before .before .before .before .before .if1 .taken)
+    (c .before .before .before .before .before .packed-head .ensures)
+    (head-length (s .h))
+    (c .before .before .put .ensures)
+
+returns-2 : tie.Need-returns-2
+unfolding packHeadInto resultOf unlessRefused writtenReply
+returns-2 c = rw (sym (c .before .head-valid .ensures) ∙ c .if1 .left)
+
+pub pack-head-spec : {M : Type 1} → statement M
+pack-head-spec =
+    tie.close
+    (tie.spec
+    head-valid-requires
+    packed-head-requires
+    slice-aggregate-put
+    put-requires
+    same-length
+    returns
+    returns-2)

@@ -1,0 +1,231 @@
+// Tickets and heads: their rules, packing them into lent bytes, and unpacking. Packed bytes are one number, the first byte on top, which the
+// code holds in two words.
+ghost use mathlib.Core.Path.{_≡_};
+ghost use mathlib.Core.Bool.{true};
+ghost use Prim.Native.Nat.{_+_, _*_, _^_, _<_, _≤_};
+ghost use lib.ListN.{length};
+ghost use Rattle.acorn_model.specs.Calls.{writtenReply};
+ghost use Rattle.tape_model.specs.Format.{join, cut, byteWidths, widths};
+ghost use Rattle.tape_model.specs.Ticket as model;
+ghost use Rattle.ticket.specs.Strings.{IsNumber, putInto};
+use acorn_model::Written;
+use tape_model::Head;
+use tape_model::Ticket;
+use tape_model::UnpackedHead;
+use tape_model::UnpackedTicket;
+
+// The ticket rule.
+pub fn valid(t: Ticket) -> bool
+    ensures { λ r. ⌜ r ≡ model.ticketRule t ⌝ }
+{
+    ((1 <= t.form) & (t.form <= 1))
+        & ((1 <= t.truck) & (t.truck <= 1023))
+        & ((1 <= t.shovel) & (t.shovel <= 63))
+        & ((1 <= t.tip) & (t.tip <= 63))
+        & (t.grade <= 9)
+        & (t.loaded <= 43199)
+        & (t.tipped <= 43199)
+        & (t.gross <= 1048575)
+        & (t.tare <= 1048575)
+        & (t.loaded <= t.tipped)
+        & (t.tare < t.gross)
+}
+
+// Gross minus tare; 0 where tare is above gross.
+pub fn net(t: Ticket) -> u32
+    ensures { λ r. ⌜ r ≡ model.net t ⌝ }
+{
+    if t.tare <= t.gross {
+        t.gross - t.tare
+    } else {
+        0
+    }
+}
+
+// The head rule.
+pub fn head_valid(h: Head) -> bool
+    ensures { λ r. ⌜ r ≡ model.headRule h ⌝ }
+{
+    ((1 <= h.device) & (h.device <= 4294967295))
+        & ((1 <= h.shift) & (h.shift <= 1000000))
+        & ((1 <= h.sheet) & (h.sheet <= 1000000))
+}
+
+// A packed ticket as a number: its first 64 bits, and its last 40.
+struct Words {
+    high: u64,
+    low: u64,
+}
+
+// The number of a ticket.
+fn words_of(t: Ticket) -> Words
+    requires { ⌜ model.ticketRule t ≡ true ⌝ }
+    ensures { λ r. ⌜ (r .low < 2 ^ 40) × (r .high * 2 ^ 40 + r .low ≡ join (widths model.form1) (model.ticketValues t)) ⌝ }
+{
+    let gross = t.gross as u64;
+    let load = (((t.form as u64) * 1024 + (t.truck as u64)) * 64 + (t.shovel as u64)) * 1024
+        + (t.tip as u64) * 16
+        + (t.grade as u64);
+    Words {
+        high: ((load * 65536 + (t.loaded as u64)) * 65536 + (t.tipped as u64)) * 4
+            + gross / 0x4_0000,
+        low: gross % 0x4_0000 * 0x40_0000 + (t.tare as u64) * 4,
+    }
+}
+
+// The 13 bytes of the number.
+fn ticket_bytes(w: Words) -> [u8; 13]
+    requires { ⌜ w .low < 2 ^ 40 ⌝ }
+    ensures { λ r. ⌜ r ≡ cut (byteWidths 13) (w .high * 2 ^ 40 + w .low) ⌝ }
+{
+    let h = w.high;
+    let l = w.low;
+    [
+        (h / 0x100_0000_0000_0000 % 256) as u8,
+        (h / 0x1_0000_0000_0000 % 256) as u8,
+        (h / 0x100_0000_0000 % 256) as u8,
+        (h / 0x1_0000_0000 % 256) as u8,
+        (h / 0x100_0000 % 256) as u8,
+        (h / 0x1_0000 % 256) as u8,
+        (h / 0x100 % 256) as u8,
+        (h / 1 % 256) as u8,
+        (l / 0x1_0000_0000 % 256) as u8,
+        (l / 0x100_0000 % 256) as u8,
+        (l / 0x1_0000 % 256) as u8,
+        (l / 0x100 % 256) as u8,
+        (l / 1 % 256) as u8,
+    ]
+}
+
+// A packed ticket.
+fn packed_ticket(t: Ticket) -> [u8; 13]
+    requires { ⌜ model.ticketRule t ≡ true ⌝ }
+    ensures { λ r. ⌜ r ≡ model.packTicket t ⌝ }
+{
+    ticket_bytes(words_of(t))
+}
+
+// A packed head: 32 bits, and 40.
+fn packed_head(h: Head) -> [u8; 9]
+    requires { ⌜ model.headRule h ≡ true ⌝ }
+    ensures { λ r. ⌜ r ≡ model.packHead h ⌝ }
+{
+    let d = h.device;
+    let l = (h.shift as u64) * 0x10_0000 + (h.sheet as u64);
+    [
+        (d / 0x100_0000 % 256) as u8,
+        (d / 0x1_0000 % 256) as u8,
+        (d / 0x100 % 256) as u8,
+        (d / 1 % 256) as u8,
+        (l / 0x1_0000_0000 % 256) as u8,
+        (l / 0x100_0000 % 256) as u8,
+        (l / 0x1_0000 % 256) as u8,
+        (l / 0x100 % 256) as u8,
+        (l / 1 % 256) as u8,
+    ]
+}
+
+// Writes packed bytes at the start of the output.
+fn put(packed: &[u8], out: &mut [u8]) -> Written
+    ensures { λ r. ⌜ putInto (now (packed .entry)) (now (out .entry)) ≡ record { answer = writtenReply r; out = now (out .exit) } ⌝ }
+{
+    if out.len() < packed.len() {
+        return Written::Refused(6);
+    }
+    bytes::copy(packed, out);
+    Written::Done(packed.len())
+}
+
+// Writes a packed ticket: 4 for one that breaks the rule, 6 for an output under 13 bytes.
+pub fn pack_ticket(t: Ticket, out: &mut [u8]) -> Written
+    ensures { λ r. ⌜ model.packTicketInto t (now (out .entry)) ≡ record { answer = writtenReply r; out = now (out .exit) } ⌝ }
+{
+    if valid(t) {
+        let packed = packed_ticket(t);
+        put(&packed, out)
+    } else {
+        Written::Refused(4)
+    }
+}
+
+// Writes a packed head: 3 for one that breaks the rule, 6 for an output under 9 bytes.
+pub fn pack_head(h: Head, out: &mut [u8]) -> Written
+    ensures { λ r. ⌜ model.packHeadInto h (now (out .entry)) ≡ record { answer = writtenReply r; out = now (out .exit) } ⌝ }
+{
+    if head_valid(h) {
+        let packed = packed_head(h);
+        put(&packed, out)
+    } else {
+        Written::Refused(3)
+    }
+}
+
+// The number of up to 8 bytes, the first on top.
+fn number(s: &[u8]) -> u64
+    requires { ⌜ length (now s) ≤ 8 ⌝ }
+    ensures { λ r. ⌜ IsNumber (now (s .entry)) r ⌝ }
+{
+    let mut n: u64 = 0;
+    let mut i: usize = 0;
+    while i < s.len() {
+        n = n * 256 + (s[i] as u64);
+        i += 1;
+    }
+    n
+}
+
+// The ticket in a number.
+fn ticket_in(h: u64, l: u64) -> Ticket
+    requires { ⌜ l < 2 ^ 40 ⌝ }
+    ensures { λ r. ⌜ r ≡ model.ticketOf (cut (widths model.form1) (h * 2 ^ 40 + l)) ⌝ }
+{
+    Ticket {
+        form: (h / 0x1000_0000_0000_0000) as u8,
+        truck: (h / 0x4_0000_0000_0000 % 1024) as u16,
+        shovel: (h / 0x1000_0000_0000 % 64) as u8,
+        tip: (h / 0x40_0000_0000 % 64) as u8,
+        grade: (h / 0x4_0000_0000 % 16) as u8,
+        loaded: (h / 0x4_0000 % 0x1_0000) as u32,
+        tipped: (h / 4 % 0x1_0000) as u32,
+        gross: (h % 4 * 0x4_0000 + l / 0x40_0000) as u32,
+        tare: (l / 4 % 0x10_0000) as u32,
+    }
+}
+
+// The ticket in packed bytes: 2 for another size than 13, 8 where its values or spare bits break the rule.
+pub fn unpack_ticket(packed: &[u8]) -> UnpackedTicket
+    ensures { λ r. ⌜ model.ticketReply r ≡ model.unpackTicket (now (packed .entry)) ⌝ }
+{
+    if packed.len() != 13 {
+        return UnpackedTicket::Refused(2);
+    }
+    let h = number(&packed[0..8]);
+    let l = number(&packed[8..13]);
+    let t = ticket_in(h, l);
+    if (l % 4 == 0) & valid(t) {
+        UnpackedTicket::Done(t)
+    } else {
+        UnpackedTicket::Refused(8)
+    }
+}
+
+// The head in packed bytes: 2 for another size than 9, 3 for a field outside its range.
+pub fn unpack_head(packed: &[u8]) -> UnpackedHead
+    ensures { λ r. ⌜ model.headReply r ≡ model.unpackHead (now (packed .entry)) ⌝ }
+{
+    if packed.len() != 9 {
+        return UnpackedHead::Refused(2);
+    }
+    let d = number(&packed[0..4]);
+    let l = number(&packed[4..9]);
+    let h = Head {
+        device: (d % 0x1_0000_0000) as u32,
+        shift: (l / 0x10_0000 % 0x10_0000) as u32,
+        sheet: (l % 0x10_0000) as u32,
+    };
+    if head_valid(h) {
+        UnpackedHead::Done(h)
+    } else {
+        UnpackedHead::Refused(3)
+    }
+}
