@@ -17,7 +17,7 @@ lt-or-ge (suc a) (suc b) = ⊎-elim (λ p. inl (suc-le-suc p)) (λ q. inr (suc-l
 
 -- ## One bit
 
-zero-or-one : (x : ℕ) → x < 2 → (x ≡ 0) ⊎ (x ≡ 1)
+pub zero-or-one : (x : ℕ) → x < 2 → (x ≡ 0) ⊎ (x ≡ 1)
 zero-or-one zero h = inl refl
 zero-or-one (suc zero) h = inr refl
 zero-or-one (suc (suc x)) h = absurd (omega arith)

@@ -1,0 +1,78 @@
+-- The stretch and the control bits of a step, by the range of its number; and the control bits of data and text.
+use mathlib.Core.Path.{_≡_, refl, sym, ap, _∙_}
+use mathlib.Core.Bool.{Bool, true, false}
+use mathlib.Core.List.{List}
+use mathlib.Core.Logic.{⊎-elim, _⊎_}
+use Prim.Native.Nat.{ℕ, _+_, _-_, _≤_, _<_}
+use native.Mathlib.Omega.{arith}
+use lib.Dec.{eqb, ltb}
+use borrow.Author.Tests.{lt-ltb, le-ltb, eq-eqb, ne-eqb}
+use Rattle.acorn_model.specs.Bits.{_if_else_}
+use Rattle.acorn_model.specs.Stretches.{start, dataPiece, dataEnd, textPiece, textEnd, final}
+use Rattle.acorn.specs.Table.{stretchAt, firstStep, rowOf, caAt, cbAt, ControlsAt}
+use Rattle.acorn.specs.declared.stretch.Stretch.{Stretch}
+use Rattle.acorn.specs.declared.stretch.Stretch.the-variants.{Start, DataEnd, TextEnd, Final}
+
+-- ## The ranges
+
+module _ (n : ℕ) where
+  pub in-start : n < 1792 → stretchAt n ≡ Start
+  unfolding stretchAt
+  in-start h = rw (lt-ltb n 1792 h)
+
+  pub in-data-end : 1792 ≤ n → n < 2048 → stretchAt n ≡ DataEnd
+  unfolding stretchAt
+  in-data-end l h = rw (le-ltb n 1792 l, lt-ltb n 2048 h)
+
+  pub in-text-end : 2048 ≤ n → n < 2304 → stretchAt n ≡ TextEnd
+  unfolding stretchAt
+  in-text-end l h = rw (le-ltb n 1792 (omega arith), le-ltb n 2048 l, lt-ltb n 2304 h)
+
+  pub in-final : 2304 ≤ n → stretchAt n ≡ Final
+  unfolding stretchAt
+  in-final l = rw (le-ltb n 1792 (omega arith), le-ltb n 2048 (omega arith), le-ltb n 2304 l)
+
+  -- the control bits of a step whose stretch is known
+  module _ (stretch : Stretch) (e : stretchAt n ≡ stretch) where
+    pub ca-in : caAt n ≡ rowOf stretch .ca (n - firstStep stretch)
+    unfolding caAt
+    ca-in = ap (λ (s : Stretch). rowOf s .ca (n - firstStep s)) e
+
+    pub cb-in : cbAt n ≡ rowOf stretch .cb
+    unfolding cbAt
+    cb-in = ap (λ (s : Stretch). rowOf s .cb) e
+
+    pub controls-in : (ca cb : Bool) → ca ≡ rowOf stretch .ca (n - firstStep stretch) → cb ≡ rowOf stretch .cb → ControlsAt n stretch ca cb
+    controls-in ca cb ha hb = record { stretchIs = sym e; caIs = ha ∙ sym ca-in; cbIs = hb ∙ sym cb-in }
+
+-- ## The ends, by their first step
+
+module _ (first n : ℕ) (end : (first ≡ 1792) ⊎ (first ≡ 2048)) (h : n < 256) where
+  pub ca-of-end : caAt (first + n) ≡ ltb n 128
+  unfolding rowOf firstStep
+  ca-of-end =
+      ⊎-elim (λ (e : first ≡ 1792). let d : first + n - 1792 ≡ n = omega arith in ca-in (first + n) DataEnd (in-data-end (first + n) (omega arith) (omega arith)) ∙ ap (λ (i : ℕ). ltb i 128) d)
+      (λ (e : first ≡ 2048). let d : first + n - 2048 ≡ n = omega arith in ca-in (first + n) TextEnd (in-text-end (first + n) (omega arith) (omega arith)) ∙ ap (λ (i : ℕ). ltb i 128) d) end
+
+  pub cb-of-end : cbAt (first + n) ≡ eqb first 1792
+  unfolding rowOf
+  cb-of-end =
+      ⊎-elim (λ (e : first ≡ 1792). cb-in (first + n) DataEnd (in-data-end (first + n) (omega arith) (omega arith)) ∙ sym (eq-eqb first 1792 e))
+      (λ (e : first ≡ 2048). cb-in (first + n) TextEnd (in-text-end (first + n) (omega arith) (omega arith)) ∙ sym (ne-eqb first 1792 (omega arith))) end
+
+-- ## The seams
+
+-- each stretch begins where the one before it has run its steps
+pub seams : (key nonce : List ℕ) → (firstStep DataEnd ≡ firstStep Start + start key nonce .steps) × (firstStep TextEnd ≡ firstStep DataEnd + dataEnd .steps)
+    × (firstStep Final ≡ firstStep TextEnd + textEnd .steps)
+unfolding firstStep
+seams key nonce = (refl, refl, refl)
+
+-- data has the control bits of the step that follows it, the first of data end; and text those of the first of text end
+pub data-controls : (piece : List ℕ) (i : ℕ) → (dataPiece piece .ca i ≡ caAt (firstStep DataEnd)) × (dataPiece piece .cb ≡ cbAt (firstStep DataEnd))
+unfolding caAt cbAt stretchAt firstStep rowOf
+data-controls piece i = (refl, refl)
+
+pub text-controls : (opening : Bool) (piece : List ℕ) (i : ℕ) → (textPiece opening piece .ca i ≡ caAt (firstStep TextEnd)) × (textPiece opening piece .cb ≡ cbAt (firstStep TextEnd))
+unfolding caAt cbAt stretchAt firstStep rowOf
+text-controls opening piece i = (refl, refl)

@@ -1,0 +1,138 @@
+-- The stretches of a fixed number of steps, 32 steps and then 32 more, with the control bits of the table.
+use mathlib.Core.Path.{_≡_, refl, sym, ap, ap₂, _∙_}
+use mathlib.Core.Bool.{Bool, true, false, _&&_, cond}
+use mathlib.Core.List.{List, [], _++_, append-nil}
+use mathlib.Core.Logic.{⊎-elim, _⊎_}
+use Prim.Native.Nat.{ℕ, zero, suc, _+_, _-_, _*_, _/_, _%_, _≤_, _<_}
+use native.Mathlib.Omega.{arith}
+use lib.Dec.{eqb, ltb, lit<}
+use lib.ListN.{length, drop, drop-of-length-le}
+use lib.Bits.{bitXor}
+use borrow.Author.Tests.{lt-ltb, le-ltb, eq-eqb, ne-eqb}
+use Rattle.acorn_model.specs.Bits.{Bits, _⊕_, _if_else_, bit, bitsIn, bytes}
+use Rattle.acorn_model.specs.Step.{StepInput, run, keystreamBit}
+use Rattle.acorn_model.specs.Stretches.{inputs, through, keystream, zeros, start, startBit, final, tagOf, tagLength}
+use Rattle.acorn_model.specs.Calls.{writtenOver}
+use Rattle.acorn.specs.Together.{inputsFrom, Together}
+use Rattle.acorn.specs.Runs.{endRow, startState, tagOutput}
+use Rattle.acorn.specs.Table.{caAt, cbAt, rowOf}
+use Rattle.acorn.specs.declared.stretch.Stretch.the-variants.{Start, DataEnd, TextEnd, Final}
+use Rattle.acorn_model.proofs.Numbers.{lt-or-ge}
+use Rattle.acorn_model.proofs.Runs.{run-add}
+use Rattle.acorn_model.proofs.Bytes.{bytes-length, bytes-same}
+use Rattle.acorn.proofs.WordBits.{bit-above, bit-xor, bit-zero}
+use Rattle.acorn.proofs.StretchRuns.{state-more, ks-more, state-all, Written, written-all}
+use Rattle.acorn.proofs.ControlTable.{in-start, in-final, ca-in, cb-in, ca-of-end, cb-of-end}
+
+-- what a step takes
+abbrev input : Bool → Bool → Bool → StepInput
+input ca cb b = record { ca = ca; cb = cb; m = λ (ks : Bool). b }
+
+-- ## Start
+
+-- the message bits of start, by the part that step n + i lies in
+module _ (key nonce : List ℕ) (n i : ℕ) (d : n % 32 ≡ 0) (l : i < 32) where
+  pub start-key : n < 128 → startBit key nonce (n + i) ≡ bitsIn key (8 * (n / 8) + i)
+  unfolding startBit
+  start-key h = rw (lt-ltb (n + i) 128 (omega arith)) (ap (bitsIn key) (omega arith))
+
+  pub start-nonce : 128 ≤ n → n < 256 → startBit key nonce (n + i) ≡ bitsIn nonce (8 * ((n - 128) / 8) + i)
+  unfolding startBit
+  start-nonce h h' = rw (le-ltb (n + i) 128 (omega arith), lt-ltb (n + i) 256 (omega arith)) (ap (bitsIn nonce) (omega arith))
+
+  pub start-again : 256 ≤ n → startBit key nonce (n + i) ≡ bitsIn key (8 * (n % 128 / 8) + i) ⊕ eqb (n - 256 + i) 0
+  unfolding startBit
+  start-again h =
+      rw (le-ltb (n + i) 128 (omega arith), le-ltb (n + i) 256 (omega arith))
+      (ap₂ _⊕_ same (ap (bitsIn key) (omega arith)) ∙ xor-comm (eqb (n - 256 + i) 0) (bitsIn key (8 * (n % 128 / 8) + i)))
+    where
+      same : eqb (n + i) 256 ≡ eqb (n - 256 + i) 0
+      same = ⊎-elim (λ (p : n + i < 257). eq-eqb (n + i) 256 (omega arith) ∙ sym (eq-eqb (n - 256 + i) 0 (omega arith)))
+          (λ (p : 257 ≤ n + i). ne-eqb (n + i) 256 (omega arith) ∙ sym (ne-eqb (n - 256 + i) 0 (omega arith))) (lt-or-ge (n + i) 257)
+
+      xor-comm : (p q : Bool) → p ⊕ q ≡ q ⊕ p
+      xor-comm true true = refl
+      xor-comm true false = refl
+      xor-comm false true = refl
+      xor-comm false false = refl
+
+pub start-more : (key nonce : List ℕ) (S T T' : Bits) (n x z : ℕ) (ca cb : Bool) → n < 1792 → ca ≡ caAt n → cb ≡ cbAt n → T ≡ run (inputs (start key nonce)) n S
+    → ((i : ℕ) → i < 32 → bit x i ≡ startBit key nonce (n + i)) → Together T x false ca cb 32 T' z → T' ≡ run (inputs (start key nonce)) (n + 32) S
+unfolding rowOf
+start-more key nonce S T T' n x z ca cb h ea eb reached bits steps =
+    state-more (start key nonce) S T T' n 32 x z false ca cb reached
+    (λ i l. ap₂ (λ (a b : Bool). input a b (bit x i)) (ea ∙ ca-in n Start (in-start n h)) (eb ∙ cb-in n Start (in-start n h)) ∙ ap (input true true) (bits i l)) steps
+
+-- a key or a nonce of another size runs no step
+module _ (key nonce : List ℕ) where
+  abbrev after : Bool → Bool → Bits
+  after k n = cond (k && n) (through (start key nonce) zeros) zeros
+
+  pub start-all : length key ≡ 16 → length nonce ≡ 16 → through (start key nonce) zeros ≡ startState key nonce
+  unfolding startState
+  start-all k n = sym (ap₂ after (eq-eqb (length key) 16 k) (eq-eqb (length nonce) 16 n))
+
+  pub start-key-size : (length key ≡ 16 → ⊥) → zeros ≡ startState key nonce
+  unfolding startState
+  start-key-size k = sym (ap (λ (b : Bool). after b (eqb (length nonce) 16)) (ne-eqb (length key) 16 k))
+
+  pub start-nonce-size : length key ≡ 16 → (length nonce ≡ 16 → ⊥) → zeros ≡ startState key nonce
+  unfolding startState
+  start-nonce-size k n = sym (ap₂ after (eq-eqb (length key) 16 k) (ne-eqb (length nonce) 16 n))
+
+-- ## The ends
+
+one-bit : (i : ℕ) → bit 1 i ≡ eqb i 0
+unfolding bit
+one-bit zero = refl
+one-bit (suc i) = bit-above 1 1 (suc i) (lit< tt) (omega arith) ∙ sym (ne-eqb (suc i) 0 (omega arith))
+
+pub one-now : (n i : ℕ) → n ≡ 0 → bit 1 i ≡ eqb (n + i) 0
+one-now n i e = let d : i ≡ n + i = omega arith in one-bit i ∙ ap (λ (q : ℕ). eqb q 0) d
+
+pub one-past : (n i : ℕ) → (n ≡ 0 → ⊥) → bit 0 i ≡ eqb (n + i) 0
+one-past n i f = bit-zero i ∙ sym (ne-eqb (n + i) 0 (omega arith))
+
+pub end-more : (first : ℕ) (S T T' : Bits) (n x z : ℕ) (ca cb : Bool) → (first ≡ 1792) ⊎ (first ≡ 2048) → n < 256 → n % 32 ≡ 0 → ca ≡ caAt (first + n) → cb ≡ cbAt (first + n)
+    → T ≡ run (inputs (endRow (eqb first 1792))) n S → ((i : ℕ) → bit x i ≡ eqb (n + i) 0) → Together T x false ca cb 32 T' z → T' ≡ run (inputs (endRow (eqb first 1792))) (n + 32) S
+end-more first S T T' n x z ca cb end h d ea eb reached bits steps =
+    state-more (endRow (eqb first 1792)) S T T' n 32 x z false ca cb reached
+    (λ i l. ap₂ (λ (a b : Bool). input a b (bit x i)) (ea ∙ ca-of-end first n end h ∙ steady i l) (eb ∙ cb-of-end first n end h) ∙ ap (input (ltb (n + i) 128) (eqb first 1792)) (bits i)) steps
+  where
+    steady : (i : ℕ) → i < 32 → ltb n 128 ≡ ltb (n + i) 128
+    steady i l = ⊎-elim (λ (p : n < 128). lt-ltb n 128 p ∙ sym (lt-ltb (n + i) 128 (omega arith))) (λ (p : 128 ≤ n). le-ltb n 128 p ∙ sym (le-ltb (n + i) 128 (omega arith))) (lt-or-ge n 128)
+
+-- ## Final
+
+module _ (S T T' : Bits) (step n z : ℕ) (ca cb : Bool) (h : 2304 ≤ step) (ea : ca ≡ caAt step) (eb : cb ≡ cbAt step) (reached : T ≡ run (inputs final) n S)
+    (steps : Together T 0 false ca cb 32 T' z) where
+  same : (i : ℕ) → i < 32 → inputsFrom false ca cb (bit 0) i ≡ inputs final (n + i)
+  unfolding rowOf
+  same i l = ap₂ (λ (a b : Bool). input a b (bit 0 i)) (ea ∙ ca-in step Final (in-final step h)) (eb ∙ cb-in step Final (in-final step h)) ∙ ap (input true true) (bit-zero i)
+
+  pub final-more : T' ≡ run (inputs final) (n + 32) S
+  final-more = state-more final S T T' n 32 0 z false ca cb reached same steps
+
+  pub final-ks : (q : ℕ) → q < 32 → bit z q ≡ keystream final S (n + q)
+  final-ks = ks-more final S T T' n 32 0 z false ca cb reached same steps
+
+-- the last 16 bytes of the ks of final
+pub tag-all : (S T : Bits) (out₀ out : List ℕ) → T ≡ run (inputs final) 640 S → tagLength ≤ length out₀ → Written (keystream final T) out₀ 16 out → out ≡ tagOutput S out₀
+unfolding tagOutput tagOf keystream
+tag-all S T out₀ out e h w =
+    written-all (keystream final T) 16 out₀ out w
+    ∙ ap (λ (t : List ℕ). writtenOver t out₀)
+    (bytes-same 16 (keystream final T) (λ j. keystream final S (640 + j)) (λ j l. ap keystreamBit (ap (run (inputs final) j) e ∙ sym (run-add (inputs final) 640 j S))))
+    ∙ ap (λ (t : Bool). cond t out₀ (writtenOver (tagOf S) out₀)) (sym (le-ltb (length out₀) tagLength h))
+
+pub tag-refused : (S : Bits) (out : List ℕ) → length out < tagLength → out ≡ tagOutput S out
+unfolding tagOutput
+tag-refused S out h = ap (λ (t : Bool). cond t out (writtenOver (tagOf S) out)) (sym (lt-ltb (length out) tagLength h))
+
+-- an output of the tag's own length
+pub tag-exact : (S : Bits) (out : List ℕ) → length out ≡ tagLength → tagOutput S out ≡ tagOf S
+unfolding tagOutput writtenOver tagOf
+tag-exact S out e =
+    let h : length out ≤ length (tagOf S) = omega (arith, bytes-length tagLength (λ j. keystream final S (640 + j))) in
+    ap (λ (t : Bool). cond t out (writtenOver (tagOf S) out)) (le-ltb (length out) tagLength (omega arith))
+    ∙ ap (λ (r : List ℕ). tagOf S ++ r) (drop-of-length-le out h) ∙ append-nil (tagOf S)

@@ -1,0 +1,100 @@
+-- `acorn::absorb_data` meets its contract. The invariant: i bytes of the piece, a multiple of 4, are run.
+use mathlib.Core.Path.{_≡_, refl, ap, _∙_, subst}
+use mathlib.Core.Bool.{true, false}
+use Prim.Native.Nat.{ℕ, _≤_, _+_, _-_, _*_, _%_}
+use native.Mathlib.Omega.{arith}
+use lib.ListN.{length}
+use Rattle.acorn_model.specs.Step.{run}
+use Rattle.acorn_model.specs.Stretches.{inputs, dataPiece}
+use Rattle.acorn.specs.Together.{stateOf}
+use Rattle.acorn.proofs.StretchRuns.{state-none, state-all, data-more}
+use Rattle.acorn.proofs.absorb_data.Statement.{statement}
+use Rattle.acorn.proofs.absorb_data.Tie as tie
+
+abbrev Inv-loop : tie.InvT-loop
+Inv-loop piece t₀ i₀ whole t i = (whole ≡ length piece - length piece % 4) × (i % 4 ≡ 0) × (i ≤ whole) × (stateOf t ≡ run (inputs (dataPiece piece)) (8 * i) (stateOf t₀))
+
+abbrev μ-loop : tie.MeasureT-loop
+μ-loop piece t₀ i₀ whole t i = whole - i
+
+sub-whole : tie.Need-sub-whole Inv-loop μ-loop
+sub-whole c = omega arith
+
+loop-holds : tie.Need-loop-holds Inv-loop μ-loop
+loop-holds c = (refl, omega arith, omega arith, state-none _ _)
+
+load-word-requires : tie.Need-load-word-requires Inv-loop μ-loop
+load-word-requires c κs = omega arith
+
+together-requires : tie.Need-together-requires Inv-loop μ-loop
+together-requires c κs = omega arith
+
+add-i : tie.Need-add-i Inv-loop μ-loop
+add-i c = omega arith
+
+loop-less : tie.Need-loop-less Inv-loop μ-loop
+loop-less c = omega arith
+
+loop-again : tie.Need-loop-again Inv-loop μ-loop
+loop-again c =
+    let stepped = c .before in
+    let loaded = stepped .before in
+    let v = loaded .before .before .loop in
+    let a = loaded .before .before .before .before .args in
+    let word = loaded .load-word in
+    let run = stepped .together in (
+      v .inv .0,
+      omega arith,
+      omega arith,
+      data-more (a .piece .now) (stateOf (a .s)) (stateOf (v .t)) (stateOf (run .result .state)) (v .i) 4 (word .result) (run .result .ks) (word .ensures) (v .inv .3) (run .ensures),
+    )
+
+sub-k : tie.Need-sub-k Inv-loop μ-loop
+sub-k c = omega arith
+
+load-rest-requires : tie.Need-load-rest-requires Inv-loop μ-loop
+load-rest-requires c κs = omega arith
+
+mul-together : tie.Need-mul-together Inv-loop μ-loop
+mul-together c = omega arith
+
+together-requires-2 : tie.Need-together-requires-2 Inv-loop μ-loop
+together-requires-2 c κs = omega arith
+
+returns : tie.Need-returns Inv-loop μ-loop
+returns c =
+    let stepped = c .before in
+    let loaded = stepped .before in
+    let v = loaded .before .before .before .loop in
+    let a = loaded .before .before .before .before .before .args in
+    let word = loaded .load-rest in
+    let run = stepped .together2 in
+    let k = length (a .piece .now) - v .i in
+    state-all (dataPiece (a .piece .now)) (stateOf (a .s)) (stateOf (run .result .state)) (8 * (v .i + k)) (omega arith)
+    (data-more (a .piece .now) (stateOf (a .s)) (stateOf (v .t)) (stateOf (run .result .state)) (v .i) k (word .result) (run .result .ks) (word .ensures) (v .inv .3) (run .ensures))
+
+returns-2 : tie.Need-returns-2 Inv-loop μ-loop
+returns-2 c =
+    let v = c .before .before .loop in
+    let a = c .before .before .before .before .args in
+    state-all (dataPiece (a .piece .now)) (stateOf (a .s)) (stateOf (v .t)) (8 * v .i) (omega arith) (v .inv .3)
+
+pub absorb-data-spec : {M : Type 1} → statement M
+absorb-data-spec =
+    tie.close
+    (tie.spec
+    Inv-loop
+    μ-loop
+    sub-whole
+    loop-holds
+    load-word-requires
+    together-requires
+    add-i
+    loop-less
+    loop-again
+    sub-k
+    load-rest-requires
+    mul-together
+    together-requires-2
+    returns
+    returns-2)

@@ -1,0 +1,79 @@
+-- `acorn::end` meets its contract. The invariant: n steps of the end, a multiple of 32, are run.
+use mathlib.Core.Path.{_≡_}
+use Prim.Native.Nat.{ℕ, _≤_, _+_, _-_, _%_}
+use native.Mathlib.Omega.{arith}
+use mathlib.Core.Logic.{⊎-elim}
+use lib.Dec.{eqb}
+use borrow.Author.Needs.{needs}
+use Rattle.acorn_model.specs.Step.{run}
+use Rattle.acorn_model.specs.Stretches.{inputs}
+use Rattle.acorn.specs.Together.{stateOf}
+use Rattle.acorn.specs.Runs.{endRow}
+use Rattle.acorn.proofs.StretchRuns.{state-none, state-all}
+use Rattle.acorn.proofs.FixedRuns.{end-more}
+use Rattle.acorn.proofs.end.Statement.{statement}
+use Rattle.acorn.proofs.end.Tie as tie
+
+abbrev Inv-loop : tie.InvT-loop
+Inv-loop first t₀ n₀ t n = (n ≤ 256) × (n % 32 ≡ 0) × (stateOf t ≡ run (inputs (endRow (eqb first 1792))) n (stateOf t₀))
+
+abbrev μ-loop : tie.MeasureT-loop
+μ-loop first t₀ n₀ t n = 256 - n
+
+loop-holds : tie.Need-loop-holds Inv-loop μ-loop
+loop-holds c = (omega arith, omega arith, state-none _ _)
+
+leading-one-requires : tie.Need-leading-one-requires Inv-loop μ-loop
+leading-one-requires c κs = search needs
+
+add-controls-at : tie.Need-add-controls-at Inv-loop μ-loop
+add-controls-at c = ⊎-elim (λ e. omega arith) (λ e. omega arith) (c .before .before .before .pre)
+
+controls-at-requires : tie.Need-controls-at-requires Inv-loop μ-loop
+controls-at-requires c κs = search needs
+
+together-requires : tie.Need-together-requires Inv-loop μ-loop
+together-requires c κs = omega arith
+
+add-n : tie.Need-add-n Inv-loop μ-loop
+add-n c = omega arith
+
+loop-less : tie.Need-loop-less Inv-loop μ-loop
+loop-less c = omega arith
+
+loop-again : tie.Need-loop-again Inv-loop μ-loop
+loop-again c =
+    let controlled = c .before .before in
+    let worded = controlled .before in
+    let v = worded .before .before .loop in
+    let start = worded .before .before .before in
+    let word = worded .leading-one in
+    let controls = controlled .controls-at in
+    let run = c .before .together in (
+      omega arith,
+      omega arith,
+      end-more (start .args .first) (stateOf (start .args .s)) (stateOf (v .t)) (stateOf (run .result .state)) (v .n) (word .result) (run .result .ks) (controls .result .ca) (controls .result .cb)
+          (start .pre) (omega arith) (v .inv .1) (controls .ensures .caIs) (controls .ensures .cbIs) (v .inv .2) (word .ensures) (run .ensures),
+    )
+
+returns : tie.Need-returns Inv-loop μ-loop
+returns c =
+    let v = c .before .loop in
+    let a = c .before .before .args in
+    state-all (endRow (eqb (a .first) 1792)) (stateOf (a .s)) (stateOf (v .t)) (v .n) (omega arith) (v .inv .2)
+
+pub end-spec : {M : Type 1} → statement M
+end-spec =
+    tie.close
+    (tie.spec
+    Inv-loop
+    μ-loop
+    loop-holds
+    leading-one-requires
+    add-controls-at
+    controls-at-requires
+    together-requires
+    add-n
+    loop-less
+    loop-again
+    returns)

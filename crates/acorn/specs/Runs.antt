@@ -1,0 +1,28 @@
+-- What the runs over strings come to, for every argument. Where an output is too short, or a key or nonce has not its size, no step is run and nothing is written.
+use mathlib.Core.Path.{_≡_}
+use mathlib.Core.Bool.{Bool}
+use mathlib.Core.List.{List}
+use Prim.Native.Nat.{ℕ}
+use lib.Dec.{eqb, ltb}
+use lib.ListN.{length}
+use Rattle.acorn_model.specs.Bits.{Bits, _if_else_}
+use Rattle.acorn_model.specs.Stretches.{Stretch, through, zeros, start, textPiece, textOut, tagOf, tagLength}
+use Rattle.acorn_model.specs.Calls.{writtenOver}
+use Rattle.acorn_model.specs.Machine.{keyAndNonceRight}
+
+-- A piece of text is run from the state S into an output: S′ is the state and out′ the output after it.
+pub record TextRun (opening : Bool) (S : Bits) (piece out : List ℕ) (S′ : Bits) (out′ : List ℕ) : Type 0 where
+  pub state : S′ ≡ (S if ltb (length out) (length piece) else through (textPiece opening piece) S)
+  pub output : out′ ≡ (out if ltb (length out) (length piece) else writtenOver (textOut opening piece S) out)
+
+-- the state after start, of a key and a nonce of 16 bytes
+unfoldable pub startState : List ℕ → List ℕ → Bits
+startState key nonce = through (start key nonce) zeros if keyAndNonceRight key nonce else zeros
+
+-- data end and text end, which differ in cb alone
+abbrev pub endRow : Bool → Stretch
+endRow cb = record { steps = 256; m = λ i ks. eqb i 0; ca = λ i. ltb i 128; cb = cb }
+
+-- the output after the tag of the state S before final is written
+unfoldable pub tagOutput : Bits → List ℕ → List ℕ
+tagOutput S out = out if ltb (length out) tagLength else writtenOver (tagOf S) out

@@ -1,0 +1,272 @@
+// ACORN-128 v3 on words: up to 32 steps together, and the runs over data, text and the fixed stretches.
+mod bytes;
+mod kernel;
+pub mod stretch;
+mod word;
+
+use bytes::load_rest;
+use bytes::load_word;
+use bytes::store_rest;
+use bytes::store_word;
+use kernel::together;
+use stretch::controls_at;
+use stretch::key_again;
+use stretch::leading_one;
+ghost use mathlib.Core.Path.{_≡_};
+ghost use mathlib.Core.Bool.{false, true};
+ghost use mathlib.Core.Logic.{_⊎_};
+ghost use lib.Dec.{eqb};
+ghost use Rattle.acorn_model.specs.Stretches.{zeros as allZeros, through, dataPiece, dataEnd, textPiece, textEnd, tagOf};
+ghost use Rattle.acorn.specs.Together.{stateOf};
+ghost use Rattle.acorn.specs.Runs.{TextRun, startState, endRow, tagOutput};
+
+// The 293 bits in six words: S0 to S60, S61 to S106, S107 to S153, S154 to S192, S193 to S229, S230 to S292.
+// The bits of a word above its own are of no account.
+pub struct State {
+    pub w0: u64,
+    pub w1: u64,
+    pub w2: u64,
+    pub w3: u64,
+    pub w4: u64,
+    pub w5: u64,
+}
+
+// Each run below goes 32 steps at a time while as many are left, and then takes the rest at once.
+
+// Plain text is encrypted into out, where out has room for it; else nothing is done.
+pub fn seal_text(s: State, piece: &[u8], out: &mut [u8]) -> State
+    ensures { λ r. ⌜ TextRun false (stateOf s) (now (piece .entry)) (now (out .entry)) (stateOf r) (now (out .exit)) ⌝ }
+{
+    if out.len() < piece.len() {
+        return s;
+    }
+    let mut t = s;
+    let mut i = 0;
+    let whole = piece.len() - piece.len() % 4;
+    while i < whole {
+        let x = load_word(piece, i);
+        let m = together(t, x, false, true, false, 32);
+        store_word(out, i, x ^ m.ks);
+        let next = m.state;
+        t = next;
+        i += 4;
+    }
+    if i < piece.len() {
+        let k = piece.len() - i;
+        let x = load_rest(piece, i, k);
+        let m = together(t, x, false, true, false, (8 * k) as u64);
+        store_rest(out, i, k, x ^ m.ks);
+        let next = m.state;
+        t = next;
+    }
+    t
+}
+
+// Ciphertext is decrypted into out, where out has room for it; else nothing is done. The text's bits enter the state.
+pub fn decrypt(s: State, piece: &[u8], out: &mut [u8]) -> State
+    ensures { λ r. ⌜ TextRun true (stateOf s) (now (piece .entry)) (now (out .entry)) (stateOf r) (now (out .exit)) ⌝ }
+{
+    if out.len() < piece.len() {
+        return s;
+    }
+    let mut t = s;
+    let mut i = 0;
+    let whole = piece.len() - piece.len() % 4;
+    while i < whole {
+        let x = load_word(piece, i);
+        let m = together(t, x, true, true, false, 32);
+        store_word(out, i, x ^ m.ks);
+        let next = m.state;
+        t = next;
+        i += 4;
+    }
+    if i < piece.len() {
+        let k = piece.len() - i;
+        let x = load_rest(piece, i, k);
+        let m = together(t, x, true, true, false, (8 * k) as u64);
+        store_rest(out, i, k, x ^ m.ks);
+        let next = m.state;
+        t = next;
+    }
+    t
+}
+
+// Data goes into the state.
+pub fn absorb_data(s: State, piece: &[u8]) -> State
+    ensures { λ r. ⌜ stateOf r ≡ through (dataPiece (now (piece .entry))) (stateOf s) ⌝ }
+{
+    let mut t = s;
+    let mut i = 0;
+    let whole = piece.len() - piece.len() % 4;
+    while i < whole {
+        let x = load_word(piece, i);
+        let m = together(t, x, false, true, true, 32);
+        let next = m.state;
+        t = next;
+        i += 4;
+    }
+    if i < piece.len() {
+        let k = piece.len() - i;
+        let x = load_rest(piece, i, k);
+        let m = together(t, x, false, true, true, (8 * k) as u64);
+        let next = m.state;
+        t = next;
+    }
+    t
+}
+
+// Ciphertext is decrypted into the state alone: its text is written nowhere.
+pub fn check_text(s: State, piece: &[u8]) -> State
+    ensures { λ r. ⌜ stateOf r ≡ through (textPiece true (now (piece .entry))) (stateOf s) ⌝ }
+{
+    let mut t = s;
+    let mut i = 0;
+    let whole = piece.len() - piece.len() % 4;
+    while i < whole {
+        let x = load_word(piece, i);
+        let m = together(t, x, true, true, false, 32);
+        let next = m.state;
+        t = next;
+        i += 4;
+    }
+    if i < piece.len() {
+        let k = piece.len() - i;
+        let x = load_rest(piece, i, k);
+        let m = together(t, x, true, true, false, (8 * k) as u64);
+        let next = m.state;
+        t = next;
+    }
+    t
+}
+
+// The state of all zeros.
+pub fn zeros() -> State
+    ensures { λ r. ⌜ stateOf r ≡ allZeros ⌝ }
+{
+    State {
+        w0: 0,
+        w1: 0,
+        w2: 0,
+        w3: 0,
+        w4: 0,
+        w5: 0,
+    }
+}
+
+// Start, from all zeros, of a key and a nonce of 16 bytes; of others the state stays all zeros.
+pub fn start(key: &[u8], nonce: &[u8]) -> State
+    ensures { λ r. ⌜ stateOf r ≡ startState (now (key .entry)) (now (nonce .entry)) ⌝ }
+{
+    let mut t = zeros();
+    if key.len() != 16 {
+        return t;
+    }
+    if nonce.len() != 16 {
+        return t;
+    }
+    let mut n: u64 = 0;
+    while n < 128 {
+        let x = load_word(key, (n / 8) as usize);
+        let c = controls_at(n);
+        let ca = c.ca;
+        let cb = c.cb;
+        let m = together(t, x, false, ca, cb, 32);
+        let next = m.state;
+        t = next;
+        n += 32;
+    }
+    while n < 256 {
+        let x = load_word(nonce, ((n - 128) / 8) as usize);
+        let c = controls_at(n);
+        let ca = c.ca;
+        let cb = c.cb;
+        let m = together(t, x, false, ca, cb, 32);
+        let next = m.state;
+        t = next;
+        n += 32;
+    }
+    while n < 1792 {
+        let x = key_again(key, n);
+        let c = controls_at(n);
+        let ca = c.ca;
+        let cb = c.cb;
+        let m = together(t, x, false, ca, cb, 32);
+        let next = m.state;
+        t = next;
+        n += 32;
+    }
+    t
+}
+
+// Data end or text end, by the number of its first step.
+fn end(s: State, first: u64) -> State
+    requires { ⌜ (first ≡ 1792) ⊎ (first ≡ 2048) ⌝ }
+    ensures { λ r. ⌜ stateOf r ≡ through (endRow (eqb first 1792)) (stateOf s) ⌝ }
+{
+    let mut t = s;
+    let mut n: u64 = 0;
+    while n < 256 {
+        let x = leading_one(n);
+        let c = controls_at(first + n);
+        let ca = c.ca;
+        let cb = c.cb;
+        let m = together(t, x, false, ca, cb, 32);
+        let next = m.state;
+        t = next;
+        n += 32;
+    }
+    t
+}
+
+pub fn end_data(s: State) -> State
+    ensures { λ r. ⌜ stateOf r ≡ through dataEnd (stateOf s) ⌝ }
+{
+    end(s, 1792)
+}
+
+pub fn end_text(s: State) -> State
+    ensures { λ r. ⌜ stateOf r ≡ through textEnd (stateOf s) ⌝ }
+{
+    end(s, 2048)
+}
+
+// Final, of the state before it: the tag is written to out, where out has room for it; else nothing is done.
+pub fn write_tag(s: State, out: &mut [u8])
+    ensures { λ _. ⌜ now (out .exit) ≡ tagOutput (stateOf s) (now (out .entry)) ⌝ }
+{
+    if out.len() < 16 {
+        return;
+    }
+    let mut t = s;
+    let mut n: u64 = 0;
+    while n < 640 {
+        let c = controls_at(2304 + n);
+        let ca = c.ca;
+        let cb = c.cb;
+        let m = together(t, 0, false, ca, cb, 32);
+        let next = m.state;
+        t = next;
+        n += 32;
+    }
+    let mut i = 0;
+    while i < 16 {
+        let c = controls_at(2304 + n);
+        let ca = c.ca;
+        let cb = c.cb;
+        let m = together(t, 0, false, ca, cb, 32);
+        store_word(out, i, m.ks);
+        let next = m.state;
+        t = next;
+        n += 32;
+        i += 4;
+    }
+}
+
+// The tag, of the state before final.
+pub fn tag(s: State) -> [u8; 16]
+    ensures { λ r. ⌜ r ≡ tagOf (stateOf s) ⌝ }
+{
+    let mut out = [0; 16];
+    write_tag(s, &mut out);
+    out
+}
