@@ -1,7 +1,7 @@
 -- A tape's tickets come back: from its opened bytes, by opening, by a reader, and in the listing.
 use mathlib.Core.Path.{_≡_, refl, sym, ap, ap₂, _∙_, subst}
 use mathlib.Core.Bool.{Bool, true, false, not, _&&_}
-use mathlib.Core.List.{List, [], _∷_, _++_}
+use mathlib.Core.List.{List, [], _∷_, _++_, append-nil, append-assoc}
 use Prim.Native.Nat.{ℕ, zero, suc, _+_, _-_, _*_, _/_, _%_, _≤_, _<_}
 use native.Mathlib.Omega.{arith}
 use lib.Dec.{leb, ltb, eqb}
@@ -10,7 +10,7 @@ use lib.Seq.{take-at, drop-at, drop-drop}
 use borrow.Author.Tests.{le-leb, lt-leb, le-ltb, eq-eqb}
 use Rattle.acorn_model.specs.Bits.{_if_else_, AreBytes}
 use Rattle.acorn_model.specs.Calls.{Reply, refused, done, accepted, unlessRefused, writtenOver}
-use Rattle.acorn_model.specs.Machine.{keyLength}
+use Rattle.acorn_model.specs.Machine.{keyLength, nonceLength}
 use Rattle.acorn_model.specs.Message.{resultOf, sealed, tagMatches, opened}
 use Rattle.acorn_model.proofs.Bytes.{append-are-bytes}
 use Rattle.acorn_model.proofs.Outputs.{sealed-length, sealed-are-bytes}
@@ -26,7 +26,7 @@ use Rattle.tape_model.proofs.Tickets.{ticket-inverse, head-inverse, tic
 
 -- ## Plain bytes
 
-pub tickets-length : (ts : List Ticket) → length (packTickets ts) ≡ 13 * length ts
+pub tickets-length : (ts : List Ticket) → length (packTickets ts) ≡ ticketLength * length ts
 unfolding packTickets
 tickets-length [] = refl
 tickets-length (t ∷ ts) = omega (arith, length-append (packTicket t) (packTickets ts), ticket-length t, tickets-length ts)
@@ -35,6 +35,19 @@ pub tickets-bytes : (ts : List Ticket) → AreBytes (packTickets ts)
 unfolding packTickets
 tickets-bytes [] = λ p. omega arith
 tickets-bytes (t ∷ ts) = append-are-bytes (packTicket t) (packTickets ts) (ticket-bytes t) (tickets-bytes ts)
+
+pub tickets-append : (ts us : List Ticket) → packTickets (ts ++ us) ≡ packTickets ts ++ packTickets us
+unfolding packTickets
+tickets-append [] us = refl
+tickets-append (t ∷ ts) us = ap (_++_ (packTicket t)) (tickets-append ts us) ∙ sym (append-assoc (packTicket t) (packTickets ts) (packTickets us))
+
+pub ticket-alone : (t : Ticket) → packTickets (t ∷ []) ≡ packTicket t
+unfolding packTickets
+ticket-alone t = append-nil (packTicket t)
+
+pub nonce-length : (h : Head) → length (nonceOf (packHead h)) ≡ nonceLength
+unfolding packHead
+nonce-length h = refl
 
 first-ticket : (t : Ticket) (ts : List Ticket) → take ticketLength (packTickets (t ∷ ts)) ≡ packTicket t
 unfolding packTickets

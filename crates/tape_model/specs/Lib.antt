@@ -2,6 +2,7 @@ pub mod Format
 pub mod Ticket
 pub mod Tape
 pub mod Writer
+pub mod WriterLists
 pub mod Reader
 pub mod Listing
 pub mod Cases

@@ -1,0 +1,13 @@
+pub mod Refusals
+pub mod Lists
+pub mod Logs
+pub mod ByKind
+pub mod Reached
+pub mod Kept
+pub mod After
+pub mod MachineLists
+pub mod Ran
+pub mod WriterReached
+pub mod WriterAccepts
+pub mod WriterKept
+pub mod WriterLists

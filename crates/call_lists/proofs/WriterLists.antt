@@ -1,0 +1,71 @@
+-- The statements of specs/WriterLists.antt, proved from what a list leads to.
+use mathlib.Core.Path.{_≡_, sym, ap, ap₂, _∙_}
+use mathlib.Core.List.{List, [], _++_}
+use Prim.Native.Nat.{ℕ}
+use Rattle.acorn_model.specs.declared.Kind.the-variants.{Sealing}
+use Rattle.acorn_model.specs.declared.Phase.{Phase}
+use Rattle.acorn_model.specs.declared.Phase.the-variants.{Closed as MachineClosed}
+use Rattle.acorn_model.specs.Calls.{done, Work, Outcome, refusedWith}
+use Rattle.acorn_model.specs.Machine.{Machine}
+use Rattle.acorn_model.specs.Lists.{Log}
+use Rattle.acorn_model.specs.Message.{sealed}
+use Rattle.tape_model.specs.declared.Head.{Head}
+use Rattle.tape_model.specs.declared.WriterPhase.{WriterPhase}
+use Rattle.tape_model.specs.declared.WriterPhase.the-variants.{Fresh, Open, Closed}
+use Rattle.tape_model.specs.Ticket.{packHead}
+use Rattle.tape_model.specs.Tape.{nonceOf, tapeOf}
+use Rattle.tape_model.specs.Writer.{PlainWriter, WriterCall, start, refusal, outputOf, work, writerCall}
+use Rattle.call_lists.specs.MachineLists.{logFrom}
+use Rattle.tape_model.specs.WriterLists.{Started, WriterLog, headsOf}
+use Rattle.call_lists.specs.WriterLists.{writerAfter, writerLogFrom, WriterLists}
+use Rattle.call_lists.proofs.Refusals.{by-number, writer-passed}
+use Rattle.call_lists.proofs.MachineLists.{machine-lists}
+use Rattle.call_lists.proofs.WriterReached.{Begun, WriterMeans, WriterReached, writer-in-phase}
+use Rattle.call_lists.proofs.WriterAccepts.{machine-passed, accepted-work}
+use Rattle.call_lists.proofs.WriterKept.{writer-reached}
+
+-- a list with no accepted start is that of a fresh writer
+none-written : (phase : WriterPhase) (below : Phase) (log : WriterLog) (l : Log) → WriterMeans phase below log l → log .starts ≡ [] → log .written ≡ []
+none-written Fresh below log l e h = ap (λ (x : WriterLog). x .written) e
+none-written Open below log l m h = let s = m .1 .starts in cc
+none-written Closed below log l m h = let s = m .1 .starts in cc
+
+module _ (w : PlainWriter) (log : WriterLog) (r : WriterReached w log) where
+  -- a finished writer's machine has ended: its bytes are those of the sealed tickets
+  tape-written : (b : Begun log (r .below)) → w .machine .phase ≡ MachineClosed → log .written ≡ tapeOf (b .started .key) (b .started .head) (log .tickets)
+  unfolding tapeOf headsOf
+  tape-written b c =
+      let e : r .below ≡ logFrom Sealing (log .machineCalls) = r .ran .log-is in
+      let ended = ap (λ (m : Machine). m .phase) (sym (r .ran .machine)) ∙ c in
+      let sealedBytes = machine-lists .wrote (log .machineCalls) _ ended (ap (λ (l : Log). l .begins) (sym e) ∙ b .begins) in
+      r .written ∙ ap₂ (λ (ss : List Started) (l : List ℕ). headsOf ss ++ l) (b .starts)
+      (ap (λ (l : Log). l .written) e ∙ sealedBytes
+      ∙ ap₂ (sealed (b .started .key) (nonceOf (packHead (b .started .head))))
+      (ap (λ (l : Log). l .«data») (sym e) ∙ b .«data») (ap (λ (l : Log). l .text) (sym e) ∙ b .text))
+
+  start-answers : (key out : List ℕ) (head : Head) (a : Work) → writerCall w (start key head out) .answer ≡ done a → a ≡ record { bytes = 9; steps = 1864 }
+  unfolding writerCall refusedWith
+  start-answers key out head a =
+      let c : WriterCall = start key head out in
+      by-number (λ (o : Outcome PlainWriter Work). o .answer ≡ done a → a ≡ record { bytes = 9; steps = 1864 })
+      (refusal w c) (work w c) (refusedWith (refusal w c) w (outputOf c))
+      (λ n h. let s = ap (λ (o : Outcome PlainWriter Work). o .answer) (accepted-work w c (machine-passed w log c r (writer-passed w c n))) in cc)
+      (λ _ h. cc)
+
+-- ## The claims
+
+pub writer-lists : WriterLists
+writer-lists = record {
+  machine = λ calls. writer-reached calls .ran .machine;
+  accepts = λ calls. writer-reached calls .ran .accepts;
+  written = λ calls.
+      let r = writer-reached calls in
+      r .written ∙ ap (λ (l : Log). headsOf (writerLogFrom calls .starts) ++ l .written) (r .ran .log-is);
+  none = λ calls. none-written (writerAfter calls .phase) (writerAfter calls .machine .phase) (writerLogFrom calls) (writer-reached calls .below) (writer-reached calls .means);
+  tickets = λ calls. writer-reached calls .tickets;
+  tape = λ calls c.
+      let r = writer-reached calls in
+      let m = writer-in-phase (writerAfter calls) (writerLogFrom calls) Closed c r in
+      (m .1 .started, m .1 .starts, tape-written (writerAfter calls) (writerLogFrom calls) r (m .1) (m .0));
+  start-answers = λ calls key out head a. start-answers (writerAfter calls) (writerLogFrom calls) (writer-reached calls) key out head a;
+}

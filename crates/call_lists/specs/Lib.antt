@@ -1,0 +1,2 @@
+pub mod MachineLists
+pub mod WriterLists

@@ -1,0 +1,50 @@
+-- What is shown of every list of calls from a fresh one-step machine: the count of steps, what an ended one wrote and judged, and that cuts do
+-- not matter. Calls may be refused, and pieces empty.
+use mathlib.Core.Path.{_≡_}
+use mathlib.Core.List.{List, [], _∷_}
+use mathlib.Core.Logic.{_↔_}
+use Prim.Native.Nat.{ℕ, _+_, _*_}
+use lib.ListN.{length}
+use Rattle.acorn_model.specs.declared.Kind.{Kind}
+use Rattle.acorn_model.specs.declared.Kind.the-variants.{Sealing, Checking}
+use Rattle.acorn_model.specs.Paper.{newTag}
+use Rattle.acorn_model.specs.Calls.{refused, done, entries, handedOn}
+use Rattle.acorn_model.specs.Machine.{Machine, fresh, Call, call}
+use Rattle.acorn_model.specs.Lists.{Arguments, Log, logOf, Ended, Alike}
+use Rattle.acorn_model.specs.Message.{sealed}
+
+module _ (kind : Kind) (calls : List Call) where
+  -- the machine after the list, and what the list amounts to
+  abbrev pub machineAfter : Machine
+  machineAfter = handedOn call (fresh kind) calls
+
+  abbrev pub logFrom : Log
+  logFrom = logOf (entries call (fresh kind) calls)
+
+-- the steps of an ended session
+abbrev pub endedSteps : Log → ℕ
+endedSteps log = 3072 + 8 * (length (log .«data») + length (log .text))
+
+pub record MachineLists : Type 0 where
+  -- once a close has ended the session, tag good or not, the count is 3,072 plus 8 for each byte of data and text taken
+  pub counted : (kind : Kind) (calls : List Call) → Ended (machineAfter kind calls)
+      → machineAfter kind calls .counts .steps ≡ endedSteps (logFrom kind calls)
+  -- an ended session began once
+  pub began : (kind : Kind) (calls : List Call) → Ended (machineAfter kind calls)
+      → (a : Arguments) × (logFrom kind calls .begins ≡ (a ∷ []))
+  -- an ended sealing session wrote the paper's ciphertext and tag of the data and text taken
+  pub wrote : (calls : List Call) (a : Arguments) → Ended (machineAfter Sealing calls) → logFrom Sealing calls .begins ≡ (a ∷ [])
+      → logFrom Sealing calls .written ≡ sealed (a .key) (a .nonce) (logFrom Sealing calls .«data») (logFrom Sealing calls .text)
+  -- an ended checking session wrote nothing, was given one tag, and said good where it is the paper's, else 7
+  pub judged : (calls : List Call) (a : Arguments) → Ended (machineAfter Checking calls) → logFrom Checking calls .begins ≡ (a ∷ [])
+      → (logFrom Checking calls .written ≡ []) × ((t : List ℕ) × (logFrom Checking calls .tags ≡ (t ∷ []))
+      × ((logFrom Checking calls .verdicts ≡ (done (record { bytes = 0; steps = endedSteps (logFrom Checking calls) }) ∷ []))
+      ↔ (t ≡ newTag (a .key) (a .nonce) (logFrom Checking calls .«data») (logFrom Checking calls .text)))
+      × ((logFrom Checking calls .verdicts ≡ (refused 7 ∷ []))
+      ↔ (t ≡ newTag (a .key) (a .nonce) (logFrom Checking calls .«data») (logFrom Checking calls .text) → ⊥)))
+  -- ended sessions that are alike wrote the same bytes in as many steps and, checking, got the same good or 7
+  pub cuts : (kind : Kind) (calls calls' : List Call) → Ended (machineAfter kind calls) → Ended (machineAfter kind calls')
+      → Alike kind (logFrom kind calls) (logFrom kind calls')
+      → (logFrom kind calls .written ≡ logFrom kind calls' .written)
+      × (machineAfter kind calls .counts .steps ≡ machineAfter kind calls' .counts .steps)
+      × (logFrom kind calls .verdicts ≡ logFrom kind calls' .verdicts)

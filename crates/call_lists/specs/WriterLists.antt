@@ -1,0 +1,44 @@
+-- What is shown of every list of calls from a fresh plain writer: which calls it makes of its machine, and which bytes it writes.
+use mathlib.Core.Path.{_≡_}
+use mathlib.Core.List.{List, [], _∷_, _++_}
+use Prim.Native.Nat.{ℕ, _+_}
+use lib.ListN.{length}
+use Rattle.acorn_model.specs.declared.Kind.the-variants.{Sealing}
+use Rattle.acorn_model.specs.Calls.{done, Work, Entry, entries, handedOn}
+use Rattle.acorn_model.specs.Machine.{fresh, Call, call}
+use Rattle.acorn_model.specs.Lists.{logOf}
+use Rattle.tape_model.specs.declared.Head.{Head}
+use Rattle.tape_model.specs.declared.WriterPhase.the-variants.{Closed}
+use Rattle.tape_model.specs.Tape.{tapeOf}
+use Rattle.tape_model.specs.Writer.{PlainWriter, freshWriter, WriterCall, start, writerCall}
+use Rattle.tape_model.specs.WriterLists.{Started, WriterLog, writerLog, headsOf}
+
+module _ (calls : List WriterCall) where
+  abbrev pub writerAfter : PlainWriter
+  writerAfter = handedOn writerCall freshWriter calls
+
+  abbrev pub writerLogFrom : WriterLog
+  writerLogFrom = writerLog (entries writerCall freshWriter calls)
+
+-- every call of a list is accepted
+abbrev pub AllAccepted : List (Entry Call) → Type 0
+AllAccepted [] = Unit {0}
+AllAccepted (e ∷ es) = ((w : Work) × (e .answer ≡ done w)) × AllAccepted es
+
+pub record WriterLists : Type 0 where
+  -- the writer's machine is the one-step machine after the calls that the accepted calls make of it, and it accepts each of them
+  pub machine : (calls : List WriterCall) → writerAfter calls .machine ≡ handedOn call (fresh Sealing) (writerLogFrom calls .machineCalls)
+  pub accepts : (calls : List WriterCall) → AllAccepted (entries call (fresh Sealing) (writerLogFrom calls .machineCalls))
+  -- the bytes written are the accepted head's nine and then the one-step machine's
+  pub written : (calls : List WriterCall)
+      → writerLogFrom calls .written ≡ headsOf (writerLogFrom calls .starts) ++ logOf (entries call (fresh Sealing) (writerLogFrom calls .machineCalls)) .written
+  -- with no accepted start there are none
+  pub none : (calls : List WriterCall) → writerLogFrom calls .starts ≡ [] → writerLogFrom calls .written ≡ []
+  -- it has counted the tickets added
+  pub tickets : (calls : List WriterCall) → writerAfter calls .tickets ≡ length (writerLogFrom calls .tickets)
+  -- a finished writer was started once, and has written the tape of that key and head and the tickets added
+  pub tape : (calls : List WriterCall) → writerAfter calls .phase ≡ Closed
+      → (s : Started) × (writerLogFrom calls .starts ≡ (s ∷ [])) × (writerLogFrom calls .written ≡ tapeOf (s .key) (s .head) (writerLogFrom calls .tickets))
+  -- an accepted start answers 9 bytes and 1,864 steps
+  pub start-answers : (calls : List WriterCall) (key out : List ℕ) (head : Head) (w : Work)
+      → writerCall (writerAfter calls) (start key head out) .answer ≡ done w → w ≡ record { bytes = 9; steps = 1864 }
