@@ -63,12 +63,20 @@ unfoldable pub totalNet : List Ticket → ℕ
 totalNet [] = 0
 totalNet (t ∷ ts) = net t + totalNet ts
 
--- ## Opening
-
--- what opening a tape answers
+-- the number of tickets, and their total net
 pub record Totals : Type 0 where
   pub tickets : ℕ
   pub net : ℕ
+
+unfoldable pub totalsOf : Reply (List Ticket) → Reply Totals
+totalsOf (refused n) = refused n
+totalsOf (done ts) = done (record { tickets = length ts; net = totalNet ts })
+
+-- the totals of plain bytes: 2 for a wrong length, 8 where a ticket does not unpack
+unfoldable pub plainTotals : List ℕ → Reply Totals
+plainTotals string = refused 2 if not (ticketsLength (length string)) else totalsOf (unpackTickets (length string / ticketLength) string)
+
+-- ## Opening
 
 -- the bytes of a tape of no tickets
 abbrev pub emptyTapeLength : ℕ
