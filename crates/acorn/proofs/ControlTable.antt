@@ -1,14 +1,13 @@
 -- The stretch and the control bits of a step, by the range of its number; and the control bits of data and text.
 use mathlib.Core.Path.{_≡_, refl, sym, ap, _∙_}
-use mathlib.Core.Bool.{Bool, true, false}
+use mathlib.Core.Bool.{Bool}
 use mathlib.Core.List.{List}
 use mathlib.Core.Logic.{⊎-elim, _⊎_}
 use Prim.Native.Nat.{ℕ, _+_, _-_, _≤_, _<_}
 use native.Mathlib.Omega.{arith}
 use lib.Dec.{eqb, ltb}
 use borrow.Author.Tests.{lt-ltb, le-ltb, eq-eqb, ne-eqb}
-use Rattle.acorn_model.specs.Bits.{_if_else_}
-use Rattle.acorn_model.specs.Stretches.{start, dataPiece, dataEnd, textPiece, textEnd, final}
+use Rattle.acorn_model.specs.Stretches.{start, dataPiece, dataEnd, textPiece, textEnd}
 use Rattle.acorn.specs.Table.{stretchAt, firstStep, rowOf, caAt, cbAt, ControlsAt}
 use Rattle.acorn.specs.declared.stretch.Stretch.{Stretch}
 use Rattle.acorn.specs.declared.stretch.Stretch.the-variants.{Start, DataEnd, TextEnd, Final}
@@ -42,23 +41,38 @@ module _ (n : ℕ) where
     unfolding cbAt
     cb-in = ap (λ (s : Stretch). rowOf s .cb) e
 
-    pub controls-in : (ca cb : Bool) → ca ≡ rowOf stretch .ca (n - firstStep stretch) → cb ≡ rowOf stretch .cb → ControlsAt n stretch ca cb
-    controls-in ca cb ha hb = record { stretchIs = sym e; caIs = ha ∙ sym ca-in; cbIs = hb ∙ sym cb-in }
+    pub controls-in : (s : Stretch) (ca cb : Bool) → s ≡ stretch → ca ≡ rowOf stretch .ca (n - firstStep stretch) → cb ≡ rowOf stretch .cb → ControlsAt n s ca cb
+    controls-in s ca cb hs ha hb = record { stretchIs = hs ∙ sym e; caIs = ha ∙ sym ca-in; cbIs = hb ∙ sym cb-in }
 
--- ## The ends, by their first step
+-- ## The rows in turn
 
+-- step i of a stretch has the control bits of step i of its row
+module _ (i : ℕ) where
+  in-stretch : (stretch : Stretch) → i < rowOf stretch .steps → stretchAt (firstStep stretch + i) ≡ stretch
+  unfolding rowOf firstStep
+  in-stretch Start h = in-start (0 + i) (omega arith)
+  in-stretch DataEnd h = in-data-end (1792 + i) (omega arith) (omega arith)
+  in-stretch TextEnd h = in-text-end (2048 + i) (omega arith) (omega arith)
+  in-stretch Final h = in-final (2304 + i) (omega arith)
+
+  pub ca-of-row : (stretch : Stretch) → i < rowOf stretch .steps → caAt (firstStep stretch + i) ≡ rowOf stretch .ca i
+  ca-of-row stretch h = ca-in (firstStep stretch + i) stretch (in-stretch stretch h) ∙ ap (rowOf stretch .ca) (omega arith)
+
+  pub cb-of-row : (stretch : Stretch) → i < rowOf stretch .steps → cbAt (firstStep stretch + i) ≡ rowOf stretch .cb
+  cb-of-row stretch h = cb-in (firstStep stretch + i) stretch (in-stretch stretch h)
+
+-- the ends, by their first step
 module _ (first n : ℕ) (end : (first ≡ 1792) ⊎ (first ≡ 2048)) (h : n < 256) where
   pub ca-of-end : caAt (first + n) ≡ ltb n 128
   unfolding rowOf firstStep
   ca-of-end =
-      ⊎-elim (λ (e : first ≡ 1792). let d : first + n - 1792 ≡ n = omega arith in ca-in (first + n) DataEnd (in-data-end (first + n) (omega arith) (omega arith)) ∙ ap (λ (i : ℕ). ltb i 128) d)
-      (λ (e : first ≡ 2048). let d : first + n - 2048 ≡ n = omega arith in ca-in (first + n) TextEnd (in-text-end (first + n) (omega arith) (omega arith)) ∙ ap (λ (i : ℕ). ltb i 128) d) end
+      ⊎-elim (λ (e : first ≡ 1792). ap (λ (f : ℕ). caAt (f + n)) e ∙ ca-of-row n DataEnd h) (λ (e : first ≡ 2048). ap (λ (f : ℕ). caAt (f + n)) e ∙ ca-of-row n TextEnd h) end
 
   pub cb-of-end : cbAt (first + n) ≡ eqb first 1792
-  unfolding rowOf
+  unfolding rowOf firstStep
   cb-of-end =
-      ⊎-elim (λ (e : first ≡ 1792). cb-in (first + n) DataEnd (in-data-end (first + n) (omega arith) (omega arith)) ∙ sym (eq-eqb first 1792 e))
-      (λ (e : first ≡ 2048). cb-in (first + n) TextEnd (in-text-end (first + n) (omega arith) (omega arith)) ∙ sym (ne-eqb first 1792 (omega arith))) end
+      ⊎-elim (λ (e : first ≡ 1792). ap (λ (f : ℕ). cbAt (f + n)) e ∙ cb-of-row n DataEnd h ∙ sym (eq-eqb first 1792 e))
+      (λ (e : first ≡ 2048). ap (λ (f : ℕ). cbAt (f + n)) e ∙ cb-of-row n TextEnd h ∙ sym (ne-eqb first 1792 (omega arith))) end
 
 -- ## The seams
 

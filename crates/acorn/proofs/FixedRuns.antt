@@ -1,27 +1,26 @@
 -- The stretches of a fixed number of steps, 32 steps and then 32 more, with the control bits of the table.
 use mathlib.Core.Path.{_≡_, refl, sym, ap, ap₂, _∙_}
 use mathlib.Core.Bool.{Bool, true, false, _&&_, cond}
-use mathlib.Core.List.{List, [], _++_, append-nil}
+use mathlib.Core.List.{List, _++_, append-nil}
 use mathlib.Core.Logic.{⊎-elim, _⊎_}
 use Prim.Native.Nat.{ℕ, zero, suc, _+_, _-_, _*_, _/_, _%_, _≤_, _<_}
 use native.Mathlib.Omega.{arith}
 use lib.Dec.{eqb, ltb, lit<}
-use lib.ListN.{length, drop, drop-of-length-le}
-use lib.Bits.{bitXor}
+use lib.ListN.{length, drop-of-length-le}
 use borrow.Author.Tests.{lt-ltb, le-ltb, eq-eqb, ne-eqb}
-use Rattle.acorn_model.specs.Bits.{Bits, _⊕_, _if_else_, bit, bitsIn, bytes}
+use Rattle.acorn_model.specs.Bits.{Bits, _⊕_, bit, bitsIn}
 use Rattle.acorn_model.specs.Step.{StepInput, run, keystreamBit}
 use Rattle.acorn_model.specs.Stretches.{inputs, through, keystream, zeros, start, startBit, final, tagOf, tagLength}
 use Rattle.acorn_model.specs.Calls.{writtenOver}
 use Rattle.acorn.specs.Together.{inputsFrom, Together}
 use Rattle.acorn.specs.Runs.{endRow, startState, tagOutput}
 use Rattle.acorn.specs.Table.{caAt, cbAt, rowOf}
-use Rattle.acorn.specs.declared.stretch.Stretch.the-variants.{Start, DataEnd, TextEnd, Final}
+use Rattle.acorn.specs.declared.stretch.Stretch.the-variants.{Start, Final}
 use Rattle.acorn_model.proofs.Numbers.{lt-or-ge}
 use Rattle.acorn_model.proofs.Runs.{run-add}
 use Rattle.acorn_model.proofs.Bytes.{bytes-length, bytes-same}
-use Rattle.acorn.proofs.WordBits.{bit-above, bit-xor, bit-zero}
-use Rattle.acorn.proofs.StretchRuns.{state-more, ks-more, state-all, Written, written-all}
+use Rattle.acorn.proofs.WordBits.{bit-above, bit-zero}
+use Rattle.acorn.proofs.StretchRuns.{state-more, ks-more, Written, written-all}
 use Rattle.acorn.proofs.ControlTable.{in-start, in-final, ca-in, cb-in, ca-of-end, cb-of-end}
 
 -- what a step takes

@@ -10,3 +10,4 @@ pub mod Strings
 pub mod StretchRuns
 pub mod ControlTable
 pub mod FixedRuns
+pub mod Callers

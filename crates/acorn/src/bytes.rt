@@ -58,11 +58,11 @@ pub(crate) fn store_rest(dst: &mut [u8], at: usize, k: usize, x: u32)
     ensures { λ _. ⌜ now (dst .exit) ≡ paste (now (dst .entry)) at (bytes 4 (bit x)) k ⌝ }
 {
     dst[at] = byte_of(x, 0);
-    if k < 2 {
+    if k == 1 {
         return;
     }
     dst[at + 1] = byte_of(x, 1);
-    if k < 3 {
+    if k == 2 {
         return;
     }
     dst[at + 2] = byte_of(x, 2);

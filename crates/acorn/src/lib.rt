@@ -9,6 +9,9 @@ use bytes::load_word;
 use bytes::store_rest;
 use bytes::store_word;
 use kernel::together;
+use stretch::DATA_END;
+use stretch::FINAL;
+use stretch::TEXT_END;
 use stretch::controls_at;
 use stretch::key_again;
 use stretch::leading_one;
@@ -31,7 +34,8 @@ pub struct State {
     pub w5: u64,
 }
 
-// Each run below goes 32 steps at a time while as many are left, and then takes the rest at once.
+// Each run over a piece goes 32 steps at a time while as many are left, and then takes the rest at once. Its control bits are literals,
+// those of the rows of text and data; the laws `data-controls` and `text-controls` tie them to `controls_at`.
 
 // Plain text is encrypted into out, where out has room for it; else nothing is done.
 pub fn seal_text(s: State, piece: &[u8], out: &mut [u8]) -> State
@@ -221,13 +225,13 @@ fn end(s: State, first: u64) -> State
 pub fn end_data(s: State) -> State
     ensures { λ r. ⌜ stateOf r ≡ through dataEnd (stateOf s) ⌝ }
 {
-    end(s, 1792)
+    end(s, DATA_END)
 }
 
 pub fn end_text(s: State) -> State
     ensures { λ r. ⌜ stateOf r ≡ through textEnd (stateOf s) ⌝ }
 {
-    end(s, 2048)
+    end(s, TEXT_END)
 }
 
 // Final, of the state before it: the tag is written to out, where out has room for it; else nothing is done.
@@ -239,8 +243,9 @@ pub fn write_tag(s: State, out: &mut [u8])
     }
     let mut t = s;
     let mut n: u64 = 0;
+    // the steps before the last 128
     while n < 640 {
-        let c = controls_at(2304 + n);
+        let c = controls_at(FINAL + n);
         let ca = c.ca;
         let cb = c.cb;
         let m = together(t, 0, false, ca, cb, 32);
@@ -250,7 +255,7 @@ pub fn write_tag(s: State, out: &mut [u8])
     }
     let mut i = 0;
     while i < 16 {
-        let c = controls_at(2304 + n);
+        let c = controls_at(FINAL + n);
         let ca = c.ca;
         let cb = c.cb;
         let m = together(t, 0, false, ca, cb, 32);

@@ -17,10 +17,23 @@ pub enum Stretch {
     Final,
 }
 
+// The number of the first step of each but start, whose first is 0.
+pub const DATA_END: u64 = 1792;
+
+pub const TEXT_END: u64 = 2048;
+
+pub const FINAL: u64 = 2304;
+
 pub struct Controls {
     pub stretch: Stretch,
     pub ca: bool,
     pub cb: bool,
+}
+
+fn row(stretch: Stretch, ca: bool, cb: bool) -> Controls
+    ensures { λ r. ⌜ (r .stretch ≡ stretch) × (r .ca ≡ ca) × (r .cb ≡ cb) ⌝ }
+{
+    Controls { stretch, ca, cb }
 }
 
 // The stretch and the control bits of a step, by its number in a message without data and text: 0 to 3071.
@@ -28,36 +41,12 @@ pub fn controls_at(step: u64) -> Controls
     ensures { λ r. ⌜ ControlsAt step (r .stretch) (r .ca) (r .cb) ⌝ }
 {
     match step {
-        0..=1791 => Controls {
-            stretch: Stretch::Start,
-            ca: true,
-            cb: true,
-        },
-        1792..=1919 => Controls {
-            stretch: Stretch::DataEnd,
-            ca: true,
-            cb: true,
-        },
-        1920..=2047 => Controls {
-            stretch: Stretch::DataEnd,
-            ca: false,
-            cb: true,
-        },
-        2048..=2175 => Controls {
-            stretch: Stretch::TextEnd,
-            ca: true,
-            cb: false,
-        },
-        2176..=2303 => Controls {
-            stretch: Stretch::TextEnd,
-            ca: false,
-            cb: false,
-        },
-        _ => Controls {
-            stretch: Stretch::Final,
-            ca: true,
-            cb: true,
-        },
+        0..=1791 => row(Stretch::Start, true, true),
+        1792..=1919 => row(Stretch::DataEnd, true, true),
+        1920..=2047 => row(Stretch::DataEnd, false, true),
+        2048..=2175 => row(Stretch::TextEnd, true, false),
+        2176..=2303 => row(Stretch::TextEnd, false, false),
+        _ => row(Stretch::Final, true, true),
     }
 }
 

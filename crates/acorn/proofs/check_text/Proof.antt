@@ -1,7 +1,7 @@
 -- `acorn::check_text` meets its contract. The invariant: i bytes of the piece, a multiple of 4, are run.
-use mathlib.Core.Path.{_≡_, refl, ap, _∙_, subst}
-use mathlib.Core.Bool.{true, false}
-use Prim.Native.Nat.{ℕ, _≤_, _+_, _-_, _*_, _%_}
+use mathlib.Core.Path.{_≡_, refl}
+use mathlib.Core.Bool.{true}
+use Prim.Native.Nat.{_≤_, _+_, _-_, _*_, _%_}
 use native.Mathlib.Omega.{arith}
 use lib.ListN.{length}
 use Rattle.acorn_model.specs.Step.{run}

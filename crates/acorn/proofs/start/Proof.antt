@@ -1,6 +1,6 @@
 -- `acorn::start` meets its contract. The invariant of each loop: n steps of start, a multiple of 32, are run.
 use mathlib.Core.Path.{_≡_, sym, _∙_}
-use Prim.Native.Nat.{ℕ, _≤_, _-_, _%_}
+use Prim.Native.Nat.{_≤_, _-_, _%_}
 use native.Mathlib.Omega.{arith}
 use borrow.Author.Needs.{needs}
 use Rattle.acorn_model.specs.Step.{run}

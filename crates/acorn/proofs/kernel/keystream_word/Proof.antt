@@ -1,3 +1,4 @@
+-- `acorn::kernel::keystream_word` meets its contract.
 use Rattle.acorn.proofs.StepWords.{ks-word}
 use borrow.Author.Needs.{needs}
 use Rattle.acorn.proofs.kernel.keystream_word.Statement.{statement}
@@ -35,8 +36,19 @@ choice-requires c κs = search needs
 
 returns : tie.Need-returns
 returns c j h =
-    ks-word (c .before .before .before .before .before .before .before .before .before .before .args .s) j h (c .before .before .before .before .before .before .before .before .before .half .result) (c .before .before .before .before .before .before .before .before .updated .result) (c .before .before .before .before .before .before .before .half2 .result) (c .before .before .before .before .before .before .updated2 .result) (c .before .before .before .before .before .updated3 .result) (c .before .before .before .before .majority .result) (c .before .before .before .updated4 .result) (c .before .before .half3 .result) (c .before .half4 .result) (c .choice .result)
-    (c .before .before .before .before .before .before .before .before .before .half .ensures j h) (c .before .before .before .before .before .before .before .before .updated .ensures j h) (c .before .before .before .before .before .before .before .half2 .ensures j h) (c .before .before .before .before .before .before .updated2 .ensures j h) (c .before .before .before .before .before .updated3 .ensures j h) (c .before .before .before .before .majority .ensures j) (c .before .before .before .updated4 .ensures j h) (c .before .before .half3 .ensures j h) (c .before .half4 .ensures j h) (c .choice .ensures j)
+    let p66 = c .before in
+    let p111 = p66 .before in
+    let a230 = p111 .before in
+    let m = a230 .before in
+    let a193 = m .before in
+    let a61 = a193 .before in
+    let p235 = a61 .before in
+    let a154 = p235 .before in
+    let p12 = a154 .before in
+    ks-word (p12 .before .args .s) j h (p12 .half .result) (a154 .updated .result) (p235 .half2 .result) (a61 .updated2 .result) (a193 .updated3 .result) (m .majority .result)
+    (a230 .updated4 .result) (p111 .half3 .result) (p66 .half4 .result) (c .choice .result)
+    (p12 .half .ensures j h) (a154 .updated .ensures j h) (p235 .half2 .ensures j h) (a61 .updated2 .ensures j h) (a193 .updated3 .ensures j h) (m .majority .ensures j)
+    (a230 .updated4 .ensures j h) (p111 .half3 .ensures j h) (p66 .half4 .ensures j h) (c .choice .ensures j)
 
 pub keystream-word-spec : {M : Type 1} → statement M
 keystream-word-spec =

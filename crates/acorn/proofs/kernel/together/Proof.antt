@@ -1,3 +1,4 @@
+-- `acorn::kernel::together` meets its contract.
 use Rattle.acorn.proofs.TogetherSteps.{together-steps}
 use borrow.Author.Needs.{needs}
 use Rattle.acorn.proofs.kernel.together.Statement.{statement}
@@ -50,12 +51,27 @@ shifted-last-requires c κs = search needs
 
 returns : tie.Need-returns
 returns c =
-    let a = c .before .before .before .before .before .before .before .before .before .before .before .before .before .before .before .args in
-    together-steps (a .s) (a .x) (a .opening) (a .ca) (a .cb) (a .k) (c .before .before .before .before .before .before .before .before .before .before .before .before .before .before .before .pre) (c .before .before .before .before .before .before .before .before .before .before .before .before .before .before .keystream-word .result) (c .before .before .before .before .before .before .before .before .before .before .before .before .before .feedback-word .result) (c .before .before .before .before .before .before .before .before .before .before .before .before .mask .result)
-    (c .before .before .before .before .before .before .before .before .before .before .before .before .before .before .keystream-word .ensures) (c .before .before .before .before .before .before .before .before .before .before .before .before .before .feedback-word .ensures) (c .before .before .before .before .before .before .before .before .before .before .before .before .mask .ensures)
-    _ (c .before .before .before .before .before .before .before .before .before .before .before .updated .result) (c .before .before .before .before .before .before .before .before .before .updated2 .result) (c .before .before .before .before .before .before .before .updated3 .result) (c .before .before .before .before .before .updated4 .result) (c .before .before .before .updated5 .result) (c .before .updated6 .result)
-    (c .before .before .before .before .before .before .before .before .before .before .before .updated .ensures) (c .before .before .before .before .before .before .before .before .before .before .shifted .ensures) (c .before .before .before .before .before .before .before .before .before .updated2 .ensures) (c .before .before .before .before .before .before .before .before .shifted2 .ensures) (c .before .before .before .before .before .before .before .updated3 .ensures) (c .before .before .before .before .before .before .shifted3 .ensures) (c .before .before .before .before .before .updated4 .ensures) (c .before .before .before .before .shifted4 .ensures) (c .before .before .before .updated5 .ensures) (c .before .before .shifted5 .ensures)
-    (c .before .updated6 .ensures) (c .shifted-last .ensures .0) (c .shifted-last .ensures .1)
+    let u5 = c .before in
+    let r4 = u5 .before in
+    let u4 = r4 .before in
+    let r3 = u4 .before in
+    let u3 = r3 .before in
+    let r2 = u3 .before in
+    let u2 = r2 .before in
+    let r1 = u2 .before in
+    let u1 = r1 .before in
+    let r0 = u1 .before in
+    let u0 = r0 .before in
+    let o = u0 .before in
+    let f = o .before in
+    let z = f .before in
+    let start = z .before in
+    let a = start .args in
+    together-steps (a .s) (a .x) (a .opening) (a .ca) (a .cb) (a .k) (start .pre) (z .keystream-word .result) (f .feedback-word .result) (o .mask .result)
+    (z .keystream-word .ensures) (f .feedback-word .ensures) (o .mask .ensures) _
+    (u0 .updated .result) (u1 .updated2 .result) (u2 .updated3 .result) (u3 .updated4 .result) (u4 .updated5 .result) (u5 .updated6 .result)
+    (u0 .updated .ensures) (r0 .shifted .ensures) (u1 .updated2 .ensures) (r1 .shifted2 .ensures) (u2 .updated3 .ensures) (r2 .shifted3 .ensures) (u3 .updated4 .ensures) (r3 .shifted4 .ensures)
+    (u4 .updated5 .ensures) (r4 .shifted5 .ensures) (u5 .updated6 .ensures) (c .shifted-last .ensures .0) (c .shifted-last .ensures .1)
 
 pub together-spec : {M : Type 1} → statement M
 together-spec =

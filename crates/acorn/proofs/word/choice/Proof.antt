@@ -1,3 +1,4 @@
+-- `acorn::word::choice` meets its contract.
 use Rattle.acorn.proofs.WordBits.{bit-xor, bit-and}
 use Rattle.acorn.proofs.StepWords.{ch-is}
 use Rattle.acorn.proofs.word.choice.Statement.{statement}

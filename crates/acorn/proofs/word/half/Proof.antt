@@ -1,3 +1,4 @@
+-- `acorn::word::half` meets its contract.
 use mathlib.Core.Path.{ap, _∙_}
 use Prim.Native.Nat.{ℕ}
 use lib.Bits.{and-mask}

@@ -1,4 +1,4 @@
--- `acorn::low` meets its contract. Assumes nothing.
+-- `acorn::word::low` meets its contract.
 use borrow.Author.Needs.{needs}
 use Rattle.acorn.proofs.WordBits.{low-mask, low-pos}
 use Rattle.acorn.proofs.word.low.Statement.{statement}

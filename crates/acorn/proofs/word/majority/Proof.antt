@@ -1,3 +1,4 @@
+-- `acorn::word::majority` meets its contract.
 use Rattle.acorn.proofs.WordBits.{bit-xor, bit-and}
 use Rattle.acorn.proofs.StepWords.{maj-is}
 use Rattle.acorn.proofs.word.majority.Statement.{statement}

@@ -1,3 +1,4 @@
+-- `acorn::word::mask` meets its contract.
 use mathlib.Core.Path.{sym, _∙_}
 use Prim.Native.Nat.{zero-le}
 use lib.Dec.{lit<}

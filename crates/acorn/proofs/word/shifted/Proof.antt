@@ -1,3 +1,4 @@
+-- `acorn::word::shifted` meets its contract.
 use Rattle.acorn.proofs.ShiftedBits.{bit-shifted}
 use borrow.Author.Needs.{needs}
 use Rattle.acorn.proofs.word.shifted.Statement.{statement}

@@ -1,3 +1,4 @@
+-- `acorn::word::shifted_last` meets its contract.
 use Rattle.acorn.proofs.ShiftedBits.{both-lower, both-upper}
 use borrow.Author.Needs.{needs}
 use Rattle.acorn.proofs.word.shifted_last.Statement.{statement}

@@ -1,3 +1,4 @@
+-- `acorn::word::updated` meets its contract.
 use mathlib.Core.Path.{_∙_}
 use Rattle.acorn.proofs.StepWords.{bit-updated}
 use borrow.Author.Needs.{needs}
