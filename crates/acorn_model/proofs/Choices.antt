@@ -1,6 +1,6 @@
--- What tests tell: two that hold together, and a choice by a test of numbers, `a if ltb i n else b` or `a if eqb i n else b`.
-use mathlib.Core.Path.{_≡_, refl}
-use mathlib.Core.Bool.{Bool, true, false, _&&_, false≢true}
+-- What tests tell: two that hold together, two of which neither holds, and a choice by a test of numbers, `a if ltb i n else b` or `a if eqb i n else b`.
+use mathlib.Core.Path.{_≡_, refl, sym}
+use mathlib.Core.Bool.{Bool, true, false, _&&_, _||_, false≢true}
 use Prim.Native.Nat.{ℕ, _≤_, _<_}
 use lib.Dec.{eqb, ltb}
 use borrow.Author.Tests.{lt-ltb, le-ltb, eq-eqb, ne-eqb}
@@ -9,6 +9,10 @@ use Rattle.acorn_model.specs.Bits.{_if_else_}
 pub both : (a b : Bool) → (a && b) ≡ true → (a ≡ true) × (b ≡ true)
 both true b h = (refl, h)
 both false b h = absurd (false≢true h)
+
+pub neither : (a b : Bool) → (a || b) ≡ false → (a ≡ false) × (b ≡ false)
+neither true b h = absurd (false≢true (sym h))
+neither false b h = (refl, h)
 
 module _ {A : Type 0} (i : ℕ) {n : ℕ} where
   pub if-below : {a c : A} (b : A) → i < n → a ≡ c → (a if ltb i n else b) ≡ c

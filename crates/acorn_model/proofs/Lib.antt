@@ -12,4 +12,5 @@ pub mod Inverse
 pub mod Relation
 pub mod SameBytes
 pub mod Whole
+pub mod Messages
 pub mod Proved

@@ -5,12 +5,13 @@ use mathlib.Core.List.{List}
 use Prim.Native.Nat.{ℕ}
 use Rattle.acorn_model.specs.Stretches.{joined}
 use Rattle.acorn_model.specs.Paper.{ciphertext, tag, decrypted, newTag}
-use Rattle.acorn_model.specs.Laws.{PaperComputed, OpeningExact, StretchesAgree}
+use Rattle.acorn_model.specs.Laws.{PaperComputed, OpeningExact, StretchesAgree, MessageLaws}
 use Rattle.acorn_model.proofs.Agree.{ciphertext-agrees, tag-agrees, decrypted-agrees, newTag-agrees}
 use Rattle.acorn_model.proofs.Pieces.{message-out, message-tag}
 use Rattle.acorn_model.proofs.Inverse.{decrypted-ciphertext, opens-with-tag, opens-exactly}
 use Rattle.acorn_model.proofs.Relation.{sealing-by-paper, sealing-only, opening-by-paper, opening-only}
 use Rattle.acorn_model.proofs.Whole.{opened-exactly}
+use Rattle.acorn_model.proofs.Messages.{seals, opens, opens-sealed, seal-refused, open-refused, sevens-alike}
 
 module _ (key nonce «data» : List ℕ) where
   pub paper-computed : PaperComputed key nonce «data»
@@ -44,4 +45,15 @@ module _ (key nonce «data» : List ℕ) where
           message-out key nonce ds true ts ∙ decrypted-agrees key nonce (joined ds) (joined ts) ∙ ap (λ (d : List ℕ). decrypted key nonce d (joined ts)) e,
           message-tag key nonce ds true ts ∙ newTag-agrees key nonce (joined ds) (joined ts) ∙ ap (λ (d : List ℕ). newTag key nonce d (joined ts)) e,
         );
+      }
+
+  pub message-laws : MessageLaws key nonce «data»
+  message-laws =
+      record {
+        seals = seals key nonce «data»;
+        opens-exactly = opens key nonce «data»;
+        opens-sealed = opens-sealed key nonce «data»;
+        seal-refused = seal-refused key nonce «data»;
+        open-refused = open-refused key nonce «data»;
+        sevens-alike = sevens-alike key nonce «data»;
       }

@@ -3,12 +3,14 @@ use mathlib.Core.Path.{_≡_}
 use mathlib.Core.Bool.{Bool, true, false}
 use mathlib.Core.List.{List}
 use mathlib.Core.Logic.{_↔_}
-use Prim.Native.Nat.{ℕ, _*_}
-use lib.ListN.{length}
+use Prim.Native.Nat.{ℕ, _+_, _*_, _≤_}
+use lib.ListN.{length, take}
 use Rattle.acorn_model.specs.Bits.{Bits, AreBytes, bitsIn, bytes}
 use Rattle.acorn_model.specs.Paper.{Encrypts, ciphertext, tag, decrypted, newTag, Opens}
 use Rattle.acorn_model.specs.Stretches.{tagLength, textOut, tagOf, through, textEnd, afterData, beforeFinal, textPieces, textPiecesOut, joined, afterDataPieces}
-use Rattle.acorn_model.specs.Message.{sealed, tagMatches, opened}
+use Rattle.acorn_model.specs.Calls.{refused, done, writtenOver}
+use Rattle.acorn_model.specs.Machine.{keyLength, nonceLength, byteLimit}
+use Rattle.acorn_model.specs.Message.{sealed, tagMatches, opened, sealMessage, openMessage}
 
 module _ (key nonce «data» : List ℕ) where
   -- by the paper n bytes of plaintext bits p are encrypted to c, with the tag T
@@ -51,3 +53,31 @@ module _ (key nonce «data» : List ℕ) where
     pub opening-pieces : (ds ts : List (List ℕ)) → joined ds ≡ «data»
         → (textPiecesOut true ts (afterDataPieces key nonce ds) ≡ decrypted key nonce «data» (joined ts))
         × (tagOf (through textEnd (textPieces true ts (afterDataPieces key nonce ds))) ≡ newTag key nonce «data» (joined ts))
+
+  -- the numbers 2 and 5 do not apply to a message of this text
+  pub record WithinLimits (text : List ℕ) : Type 0 where
+    pub key-size : length key ≡ keyLength
+    pub nonce-size : length nonce ≡ nonceLength
+    pub data-limit : length «data» ≤ byteLimit
+    pub text-limit : length text ≤ byteLimit
+
+  -- Whole sealing and opening, with their answers and outputs.
+  pub record MessageLaws : Type 0 where
+    pub seals : (text out : List ℕ) → WithinLimits text → length text + tagLength ≤ length out
+        → sealMessage key nonce «data» text out ≡ record { answer = done (length text + tagLength); out = writtenOver (sealed key nonce «data» text) out }
+    -- a text is written exactly where it is within the limits, has room, and the sealed bytes are that text sealed
+    pub opens-exactly : (sealedBytes text out : List ℕ) → AreBytes sealedBytes → AreBytes text
+        → (openMessage key nonce «data» sealedBytes out ≡ record { answer = done (length text); out = writtenOver text out })
+        ↔ (WithinLimits text × (length text ≤ length out) × (sealedBytes ≡ sealed key nonce «data» text))
+    -- what a sealing wrote opens to its text
+    pub opens-sealed : (text out out′ : List ℕ) → AreBytes text → WithinLimits text → length text + tagLength ≤ length out → length text ≤ length out′
+        → openMessage key nonce «data» (take (length text + tagLength) (sealMessage key nonce «data» text out .out)) out′
+        ≡ record { answer = done (length text); out = writtenOver text out′ }
+    -- a refused call leaves its output as it was
+    pub seal-refused : (n : ℕ) (text out : List ℕ) → sealMessage key nonce «data» text out .answer ≡ refused n → sealMessage key nonce «data» text out .out ≡ out
+    pub open-refused : (n : ℕ) (sealedBytes out : List ℕ) → openMessage key nonce «data» sealedBytes out .answer ≡ refused n
+        → openMessage key nonce «data» sealedBytes out .out ≡ out
+    -- two openings that both end on a differing tag, with equal outputs before, give the same answer and leave equal outputs
+    pub sevens-alike : (key′ nonce′ data′ sealedBytes sealedBytes′ out : List ℕ) → openMessage key nonce «data» sealedBytes out .answer ≡ refused 7
+        → openMessage key′ nonce′ data′ sealedBytes′ out .answer ≡ refused 7
+        → openMessage key nonce «data» sealedBytes out ≡ openMessage key′ nonce′ data′ sealedBytes′ out

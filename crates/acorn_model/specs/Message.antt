@@ -57,13 +57,16 @@ module _ (key nonce «data» : List ℕ) where
   unfoldable pub opened : List ℕ → List ℕ
   opened sealedBytes = decrypted key nonce «data» (cipherPart sealedBytes)
 
+  -- 7, known once the steps are run
+  abbrev pub tagRefusal : List ℕ → ℕ
+  tagRefusal sealedBytes = 7 if not (tagMatches sealedBytes) else accepted
+
   unfoldable pub openRefusal : List ℕ → List ℕ → ℕ
   openRefusal sealedBytes out =
       2 if sizesWrong || ltb (length sealedBytes) tagLength else
       5 if dataOver || ltb byteLimit (length sealedBytes - tagLength) else
       6 if ltb (length out) (length sealedBytes - tagLength) else
-      7 if not (tagMatches sealedBytes) else
-      accepted
+      tagRefusal sealedBytes
 
   unfoldable pub openMessage : List ℕ → List ℕ → Result ℕ
   openMessage sealedBytes out = resultOf (openRefusal sealedBytes out) (length (opened sealedBytes)) (opened sealedBytes) out
