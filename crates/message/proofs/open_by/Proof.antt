@@ -58,8 +58,9 @@ slice-reshare-prefix-copy c = search needs
 
 slice-aggregate-copy : tie.Need-slice-aggregate-copy
 slice-aggregate-copy c =
-    let sealed = c .before .before .before .before .before .before .before .before .before .before .before .before .before .before .before .before .before .before .args .sealed .now in
-    sym (length-take-le (length sealed - 16) _ (omega arith))
+    let start = c .before .before .before .before .before .before .before .before .before .before .before .before .before .before .before .before .before .before in
+    let kept = c .before .before .before .before .before .before .before .before .decrypt .kept .0 in
+    sym (length-take-le (length (start .args .sealed .now) - 16) _ (omega (arith, start .pre .0)))
 
 copy-requires : tie.Need-copy-requires
 copy-requires c κs =
