@@ -1,0 +1,4 @@
+pub mod Wrapping
+pub mod Compared
+pub mod NextSession
+pub mod Replies

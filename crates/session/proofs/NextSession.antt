@@ -1,0 +1,102 @@
+-- The machine that the session after a call stands for, from what the code tells of the session's fields.
+use mathlib.Core.Path.{_≡_, refl, sym, ap, ap₂, _∙_}
+use mathlib.Core.Bool.{Bool, true, false, _&&_}
+use mathlib.Core.List.{List}
+use Prim.Native.Nat.{ℕ, _+_, _*_, _%_, _≤_, _^_}
+use native.Mathlib.Nat.{add-zero}
+use native.Mathlib.Omega.{arith}
+use lib.ListN.{length}
+use Rattle.acorn_model.specs.declared.Kind.{Kind}
+use Rattle.acorn_model.specs.declared.Kind.the-variants.{Sealing, Checking}
+use Rattle.acorn_model.specs.declared.Phase.{Phase}
+use Rattle.acorn_model.specs.declared.Phase.the-variants.{Text, Closed}
+use Rattle.acorn_model.specs.Bits.{Bits, _if_else_}
+use Rattle.acorn_model.specs.Stretches.{through, zeros, dataEnd, textPiece, textEnd, final}
+use Rattle.acorn_model.specs.Machine.{Machine, Counts, isSealing, isChecking, isData, runThrough, enter, cleared, countText, dataEnded, textTaken, textEnded, closed}
+use Rattle.acorn.specs.declared.State.{State}
+use Rattle.acorn.specs.Together.{stateOf}
+use Rattle.session.specs.declared.Session.{Session}
+use Rattle.session.specs.Contracts.{machineOf, wrapped, wrappedMachine, endedState, endedSteps}
+
+-- field by field
+pub stands-for : (z : Session) (m : Machine) → z .kind ≡ m .kind → z .phase ≡ m .phase → stateOf (z .state) ≡ m .state
+    → z .«data_bytes» ≡ m .counts .dataBytes → z .«text_bytes» ≡ m .counts .textBytes → z .steps ≡ wrapped (m .counts .steps)
+    → machineOf z ≡ wrappedMachine m
+unfolding machineOf wrappedMachine
+stands-for z m kind phase state dataBytes textBytes steps = λ i. record {
+  kind = kind i;
+  phase = phase i;
+  state = state i;
+  counts = record { dataBytes = dataBytes i; textBytes = textBytes i; steps = steps i };
+}
+
+-- ## The data end
+
+pub ended-steps-small : (phase : Phase) → endedSteps phase ≤ 256
+ended-steps-small phase = by (isData phase)
+  where
+    by : (t : Bool) → (dataEnd .steps if t else 0) ≤ 256
+    by true = omega arith
+    by false = omega arith
+
+module _ (m : Machine) where
+  abbrev endedIf : Bool → Machine
+  endedIf t =
+      record {
+        kind = m .kind;
+        phase = m .phase;
+        state = through dataEnd (m .state) if t else m .state;
+        counts = record { dataBytes = m .counts .dataBytes; textBytes = m .counts .textBytes; steps = m .counts .steps + (dataEnd .steps if t else 0) };
+      }
+
+  data-ended : dataEnded m ≡ endedIf (isData (m .phase))
+  unfolding dataEnded
+  data-ended = by (isData (m .phase))
+    where
+      by : (t : Bool) → (runThrough dataEnd m if t else m) ≡ endedIf t
+      by true = unfold runThrough in refl
+      by false = rw add-zero
+
+  pub ended-state : dataEnded m .state ≡ endedState (m .phase) (m .state)
+  ended-state = ap (λ (x : Machine). x .state) data-ended
+
+-- ## Text and close
+
+module _ (s : Session) (state : State) (ended n : ℕ) (e : ended ≡ endedSteps (s .phase)) where
+  pub text-session : (piece : List ℕ) → stateOf state ≡ textTaken piece (machineOf s) .state → n ≡ (s .steps + (ended + 8 * length piece)) % 2 ^ 64
+      → machineOf (record { state = state; «data_bytes» = s .«data_bytes»; «text_bytes» = s .«text_bytes» + length piece; steps = n; kind = s .kind; phase = Text })
+      ≡ wrappedMachine (textTaken piece (machineOf s))
+  unfolding textTaken countText enter runThrough machineOf wrapped
+  text-session piece h f =
+      stands-for _ (after (endedIf (machineOf s) (isData (s .phase)))) refl refl (h ∙ ap (λ (m : Machine). after m .state) (data-ended (machineOf s))) refl refl (omega arith)
+      ∙ ap (λ (m : Machine). wrappedMachine (after m)) (sym (data-ended (machineOf s)))
+    where
+      after : Machine → Machine
+      after m = enter Text (countText (length piece) (runThrough (textPiece (isChecking (s .kind)) piece) m))
+
+  pub closed-session : stateOf state ≡ zeros → n ≡ (s .steps + (ended + 1024)) % 2 ^ 64
+      → machineOf (record { state = state; «data_bytes» = s .«data_bytes»; «text_bytes» = s .«text_bytes»; steps = n; kind = s .kind; phase = Closed })
+      ≡ wrappedMachine (closed (machineOf s))
+  unfolding closed textEnded cleared enter runThrough machineOf wrapped
+  closed-session h f =
+      stands-for _ (after (endedIf (machineOf s) (isData (s .phase)))) refl refl h refl refl (omega arith)
+      ∙ ap (λ (m : Machine). wrappedMachine (after m)) (sym (data-ended (machineOf s)))
+    where
+      after : Machine → Machine
+      after m = enter Closed (cleared (runThrough final (runThrough textEnd m)))
+
+-- the state that a piece of text leads to, from the state D after the data end
+pub text-state : (s : Session) (piece : List ℕ) (opening : Bool) (D : Bits) → isChecking (s .kind) ≡ opening → D ≡ endedState (s .phase) (stateOf (s .state))
+    → through (textPiece opening piece) D ≡ textTaken piece (machineOf s) .state
+unfolding textTaken countText enter runThrough machineOf
+text-state s piece opening D k d = ap₂ (λ (o : Bool) (S : Bits). through (textPiece o piece) S) (sym k) (d ∙ sym (ended-state (machineOf s)))
+
+-- the state before final, likewise
+pub text-ended-state : (s : Session) (D E : Bits) → D ≡ endedState (s .phase) (stateOf (s .state)) → E ≡ through textEnd D → E ≡ textEnded (machineOf s) .state
+unfolding textEnded runThrough machineOf
+text-ended-state s D E d e = e ∙ ap (through textEnd) (d ∙ sym (ended-state (machineOf s)))
+
+-- a call that only sealing sessions take
+pub sealing-only : (kind : Kind) (t : Bool) → (isSealing kind && t) ≡ true → isChecking kind ≡ false
+sealing-only Sealing t e = refl
+sealing-only Checking t e = sym e

@@ -1,0 +1,70 @@
+-- How a session is held against document 01's machine: the one equation that every method's contract is.
+use mathlib.Core.Path.{_≡_}
+use mathlib.Core.Bool.{Bool}
+use mathlib.Core.List.{List}
+use Prim.Native.Nat.{ℕ, _%_, _^_}
+use Rattle.acorn_model.specs.declared.Phase.{Phase}
+use Rattle.acorn_model.specs.Bits.{Bits, _if_else_}
+use Rattle.acorn_model.specs.Stretches.{through, dataEnd}
+use Rattle.acorn_model.specs.Calls.{Reply, refused, done, Work, Outcome, answerReply}
+use Rattle.acorn_model.specs.Machine.{Machine, Counts, Call, isData, phaseAllows, sizesRight, overLimit, outputShort, refusal, call}
+use Rattle.acorn.specs.Together.{stateOf}
+use Rattle.session.specs.declared.Session.{Session}
+use Rattle.session.specs.declared.Reply.{Reply as SessionReply}
+
+-- the machine that a session stands for: every value of the struct stands for one
+unfoldable pub machineOf : Session → Machine
+machineOf s =
+    record {
+      kind = s .kind;
+      phase = s .phase;
+      state = stateOf (s .state);
+      counts = record { dataBytes = s .«data_bytes»; textBytes = s .«text_bytes»; steps = s .steps };
+    }
+
+-- what a call's reply, and its output after it, come to
+unfoldable pub outcomeOf : SessionReply → List ℕ → Outcome Machine Work
+outcomeOf r out = record { next = machineOf (r .session); answer = answerReply (r .answer); out = out }
+
+-- ## Counting in 64 bits
+
+-- A session's count of steps goes round at 2 ^ 64. A session that was fresh comes nowhere near, but a value of the struct may hold any count.
+unfoldable pub wrapped : ℕ → ℕ
+wrapped n = n % 2 ^ 64
+
+unfoldable pub wrappedMachine : Machine → Machine
+wrappedMachine m =
+    record {
+      kind = m .kind;
+      phase = m .phase;
+      state = m .state;
+      counts = record { dataBytes = m .counts .dataBytes; textBytes = m .counts .textBytes; steps = wrapped (m .counts .steps) };
+    }
+
+unfoldable pub wrappedReply : Reply Work → Reply Work
+wrappedReply (refused n) = refused n
+wrappedReply (done w) = done (record { bytes = w .bytes; steps = wrapped (w .steps) })
+
+unfoldable pub wrappedOutcome : Outcome Machine Work → Outcome Machine Work
+wrappedOutcome o = record { next = wrappedMachine (o .next); answer = wrappedReply (o .answer); out = o .out }
+
+-- ## The contract of a call
+
+-- the call c of the session s gave the reply r and left `out` in its output ([] where it is lent none)
+abbrev pub Called : Session → Call → SessionReply → List ℕ → Type 0
+Called s c r out = outcomeOf r out ≡ wrappedOutcome (call (machineOf s) c)
+
+-- ## What the private functions cite
+
+-- the state after the data end, which text and close run first where the phase is data, and the steps of that
+abbrev pub endedState : Phase → Bits → Bits
+endedState phase S = through dataEnd S if isData phase else S
+
+abbrev pub endedSteps : Phase → ℕ
+endedSteps phase = dataEnd .steps if isData phase else 0
+
+-- r is the refusal number of each call whose four tests come out so
+abbrev pub IsRefusal : Bool → Bool → Bool → Bool → ℕ → Type 0
+IsRefusal allowed sized over short r =
+    (m : Machine) (c : Call) → phaseAllows (m .kind) (m .phase) c ≡ allowed → sizesRight c ≡ sized → overLimit (m .counts) c ≡ over → outputShort c ≡ short
+    → r ≡ refusal m c

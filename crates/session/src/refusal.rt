@@ -1,0 +1,87 @@
+// What sends a call back: its tests, and the smallest number that applies.
+use acorn_model::Kind;
+use acorn_model::Phase;
+ghost use mathlib.Core.Path.{_≡_};
+ghost use mathlib.Core.Bool.{_||_};
+ghost use Prim.Native.Nat.{_+_};
+ghost use lib.Dec.{ltb};
+ghost use Rattle.acorn_model.specs.Machine.{isSealing, isChecking, isFresh, isData, isText, byteLimit};
+ghost use Rattle.session.specs.Contracts.{IsRefusal};
+
+pub(crate) fn is_sealing(kind: Kind) -> bool
+    ensures { λ r. ⌜ r ≡ isSealing kind ⌝ }
+{
+    match kind {
+        Kind::Sealing => true,
+        Kind::Checking => false,
+    }
+}
+
+pub(crate) fn is_checking(kind: Kind) -> bool
+    ensures { λ r. ⌜ r ≡ isChecking kind ⌝ }
+{
+    match kind {
+        Kind::Sealing => false,
+        Kind::Checking => true,
+    }
+}
+
+pub(crate) fn is_fresh(phase: Phase) -> bool
+    ensures { λ r. ⌜ r ≡ isFresh phase ⌝ }
+{
+    match phase {
+        Phase::Fresh => true,
+        Phase::Data => false,
+        Phase::Text => false,
+        Phase::Closed => false,
+    }
+}
+
+pub(crate) fn is_data(phase: Phase) -> bool
+    ensures { λ r. ⌜ r ≡ isData phase ⌝ }
+{
+    match phase {
+        Phase::Fresh => false,
+        Phase::Data => true,
+        Phase::Text => false,
+        Phase::Closed => false,
+    }
+}
+
+// Text and close are for data and text.
+pub(crate) fn takes_text(phase: Phase) -> bool
+    ensures { λ r. ⌜ r ≡ (isData phase || isText phase) ⌝ }
+{
+    match phase {
+        Phase::Fresh => false,
+        Phase::Data => true,
+        Phase::Text => true,
+        Phase::Closed => false,
+    }
+}
+
+// Whether a piece goes over the limit after the bytes that are taken.
+pub(crate) fn over_limit(taken: u64, piece: usize) -> bool
+    ensures { λ r. ⌜ r ≡ ltb byteLimit (taken + piece) ⌝ }
+{
+    taken > 65536 || piece as u64 > 65536 - taken
+}
+
+// The smallest number that applies, by the four tests; 0 where none does.
+pub(crate) fn number(allowed: bool, sized: bool, over: bool, short: bool) -> u8
+    ensures { λ r. ⌜ IsRefusal allowed sized over short r ⌝ }
+{
+    if !allowed {
+        return 1;
+    }
+    if !sized {
+        return 2;
+    }
+    if over {
+        return 5;
+    }
+    if short {
+        return 6;
+    }
+    0
+}
