@@ -1,2 +1,4 @@
 pub mod Reading
+pub mod Summing
+pub mod WordBytes
 pub mod Writing

@@ -10,7 +10,7 @@ use borrow.Author.Tests.{le-ltb}
 use Rattle.acorn_model.specs.Bits.{_if_else_}
 use Rattle.acorn_model.specs.Calls.{done, accepted, unlessRefused, writtenOver}
 use Rattle.acorn_model.specs.Message.{Result, resultOf}
-use Rattle.ticket.specs.Strings.{putInto}
+use Rattle.ticket.specs.Packing.{putInto}
 
 -- into an output that is long enough, all bytes are copied
 pub put-fits : (packed out after : List ℕ) → length packed ≤ length out → after ≡ take (length packed) packed ++ drop (length packed) out

@@ -1,1 +1,1 @@
-pub mod Strings
+pub mod Packing

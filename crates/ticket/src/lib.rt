@@ -1,15 +1,18 @@
-// Tickets and heads: their rules, packing them into lent bytes, and unpacking. Packed bytes are one number, the first byte on top, which the
-// code holds in two words.
+// Tickets and heads: their rules, packing them, unpacking, and the totals of plain bytes. Packed bytes are one number, the first byte on
+// top, which the code holds in two words.
+mod word;
+
 ghost use mathlib.Core.Path.{_≡_};
 ghost use mathlib.Core.Bool.{true};
-ghost use Prim.Native.Nat.{_+_, _*_, _^_, _<_, _≤_};
-ghost use lib.ListN.{length};
+ghost use Prim.Native.Nat.{ℕ, _+_, _*_, _/_, _%_, _^_, _<_};
 ghost use Rattle.acorn_model.specs.Calls.{writtenReply};
 ghost use Rattle.tape_model.specs.Format.{join, cut, byteWidths, widths};
 ghost use Rattle.tape_model.specs.Ticket as model;
-ghost use Rattle.ticket.specs.Strings.{IsNumber, putInto};
+ghost use Rattle.tape_model.specs.Tape.{plainTotals, openedReply};
+ghost use Rattle.ticket.specs.Packing.{putInto, packedAlone};
 use acorn_model::Written;
 use tape_model::Head;
+use tape_model::OpenedTape;
 use tape_model::Ticket;
 use tape_model::UnpackedHead;
 use tape_model::UnpackedTicket;
@@ -148,6 +151,29 @@ pub fn pack_ticket(t: Ticket, out: &mut [u8]) -> Written
     }
 }
 
+// A packed ticket by value, with the answer of packing it.
+pub struct PackedTicket {
+    pub bytes: [u8; 13],
+    pub answer: Written,
+}
+
+// A ticket packed by itself: zeros and 4 for one that breaks the rule.
+pub fn packed(t: Ticket) -> PackedTicket
+    ensures { λ r. ⌜ packedAlone t ≡ record { answer = writtenReply (r .answer); out = r .bytes } ⌝ }
+{
+    if valid(t) {
+        PackedTicket {
+            bytes: packed_ticket(t),
+            answer: Written::Done(13),
+        }
+    } else {
+        PackedTicket {
+            bytes: [0; 13],
+            answer: Written::Refused(4),
+        }
+    }
+}
+
 // Writes a packed head: 3 for one that breaks the rule, 6 for an output under 9 bytes.
 pub fn pack_head(h: Head, out: &mut [u8]) -> Written
     ensures { λ r. ⌜ model.packHeadInto h (now (out .entry)) ≡ record { answer = writtenReply r; out = now (out .exit) } ⌝ }
@@ -160,24 +186,9 @@ pub fn pack_head(h: Head, out: &mut [u8]) -> Written
     }
 }
 
-// The number of up to 8 bytes, the first on top.
-fn number(s: &[u8]) -> u64
-    requires { ⌜ length (now s) ≤ 8 ⌝ }
-    ensures { λ r. ⌜ IsNumber (now (s .entry)) r ⌝ }
-{
-    let mut n: u64 = 0;
-    let mut i: usize = 0;
-    while i < s.len() {
-        n = n * 256 + (s[i] as u64);
-        i += 1;
-    }
-    n
-}
-
-// The ticket in a number.
+// The ticket in a number of 104 bits, by its first 64 bits and its last 64.
 fn ticket_in(h: u64, l: u64) -> Ticket
-    requires { ⌜ l < 2 ^ 40 ⌝ }
-    ensures { λ r. ⌜ r ≡ model.ticketOf (cut (widths model.form1) (h * 2 ^ 40 + l)) ⌝ }
+    ensures { λ r. ⌜ ((n : ℕ) → h ≡ n / 2 ^ 40 → l ≡ n % 2 ^ 64 → r ≡ model.ticketOf (cut (widths model.form1) n)) ⌝ }
 {
     Ticket {
         form: (h / 0x1000_0000_0000_0000) as u8,
@@ -187,7 +198,7 @@ fn ticket_in(h: u64, l: u64) -> Ticket
         grade: (h / 0x4_0000_0000 % 16) as u8,
         loaded: (h / 0x4_0000 % 0x1_0000) as u32,
         tipped: (h / 4 % 0x1_0000) as u32,
-        gross: (h % 4 * 0x4_0000 + l / 0x40_0000) as u32,
+        gross: (l / 0x40_0000 % 0x10_0000) as u32,
         tare: (l / 4 % 0x10_0000) as u32,
     }
 }
@@ -199,8 +210,8 @@ pub fn unpack_ticket(packed: &[u8]) -> UnpackedTicket
     if packed.len() != 13 {
         return UnpackedTicket::Refused(2);
     }
-    let h = number(&packed[0..8]);
-    let l = number(&packed[8..13]);
+    let h = word::read(&packed[0..8]);
+    let l = word::read(&packed[5..13]);
     let t = ticket_in(h, l);
     if (l % 4 == 0) & valid(t) {
         UnpackedTicket::Done(t)
@@ -216,16 +227,42 @@ pub fn unpack_head(packed: &[u8]) -> UnpackedHead
     if packed.len() != 9 {
         return UnpackedHead::Refused(2);
     }
-    let d = number(&packed[0..4]);
-    let l = number(&packed[4..9]);
-    let h = Head {
-        device: (d % 0x1_0000_0000) as u32,
+    let h = word::read(&packed[0..8]);
+    let l = word::read(&packed[1..9]);
+    let head = Head {
+        device: (h / 0x1_0000_0000) as u32,
         shift: (l / 0x10_0000 % 0x10_0000) as u32,
         sheet: (l % 0x10_0000) as u32,
     };
-    if head_valid(h) {
-        UnpackedHead::Done(h)
+    if head_valid(head) {
+        UnpackedHead::Done(head)
     } else {
         UnpackedHead::Refused(3)
     }
+}
+
+// The totals of plain bytes: 2 where they are not 13 for each of at most 5,000 tickets, 8 where one does not unpack.
+pub fn totals(plain: &[u8]) -> OpenedTape
+    ensures { λ r. ⌜ openedReply r ≡ plainTotals (now (plain .entry)) ⌝ }
+{
+    let size = plain.len();
+    let tickets = size / 13;
+    if size % 13 != 0 {
+        return OpenedTape::Refused(2);
+    }
+    if 5000 < tickets {
+        return OpenedTape::Refused(2);
+    }
+    let mut i: usize = 0;
+    let mut sum: u64 = 0;
+    while i < tickets {
+        let at = 13 * i;
+        let end = at + 13;
+        let UnpackedTicket::Done(t) = unpack_ticket(&plain[at..end]) else {
+            return OpenedTape::Refused(8);
+        };
+        sum += net(t) as u64;
+        i += 1;
+    }
+    OpenedTape::Done(tickets, sum)
 }

@@ -3,7 +3,7 @@ use borrow.Author.Tests.{lt-ltb}
 use borrow.Author.Needs.{needs}
 use Rattle.acorn_model.specs.Calls.{writtenReply, unlessRefused}
 use Rattle.acorn_model.specs.Message.{resultOf}
-use Rattle.ticket.specs.Strings.{putInto}
+use Rattle.ticket.specs.Packing.{putInto}
 use Rattle.ticket.proofs.Writing.{put-fits}
 use Rattle.ticket.proofs.put.Statement.{statement}
 use Rattle.ticket.proofs.put.Tie as tie

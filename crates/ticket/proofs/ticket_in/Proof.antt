@@ -27,20 +27,14 @@ cast-t19 c = search needs
 cast-t22 : tie.Need-cast-t22
 cast-t22 c = search needs
 
-mul-t24 : tie.Need-mul-t24
-mul-t24 c = search needs
+cast-t25 : tie.Need-cast-t25
+cast-t25 c = search needs
 
-add-t26 : tie.Need-add-t26
-add-t26 c = search needs
-
-cast-t27 : tie.Need-cast-t27
-cast-t27 c = search needs
-
-cast-t30 : tie.Need-cast-t30
-cast-t30 c = search needs
+cast-t28 : tie.Need-cast-t28
+cast-t28 c = search needs
 
 returns : tie.Need-returns
-returns c = sym (ap ticketOf (cut-ticket (c .args .h) (c .args .l) (search needs) (search needs)))
+returns c n eh el = sym (ap ticketOf (cut-ticket n (c .args .h) (c .args .l) (search needs) eh el))
 
 pub ticket-in-spec : {M : Type 1} → statement M
 ticket-in-spec =
@@ -53,8 +47,6 @@ ticket-in-spec =
     cast-t16
     cast-t19
     cast-t22
-    mul-t24
-    add-t26
-    cast-t27
-    cast-t30
+    cast-t25
+    cast-t28
     returns)

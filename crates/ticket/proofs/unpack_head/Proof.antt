@@ -1,5 +1,6 @@
 -- `unpack_head` answers as the bytes unpack, refusals included.
 use mathlib.Core.Bool.{true, false}
+use native.Mathlib.Omega.{arith}
 use borrow.Author.Tests.{ne-eqb}
 use borrow.Author.Needs.{needs}
 use Rattle.tape_model.specs.Ticket.{unpackHead, headReply}
@@ -11,29 +12,29 @@ returns : tie.Need-returns
 unfolding unpackHead headReply
 returns c = rw (ne-eqb _ _ (c .if1 .taken))
 
-sub-number : tie.Need-sub-number
-sub-number c = search needs
+sub-read : tie.Need-sub-read
+sub-read c = search needs
 
-part-number-start : tie.Need-part-number-start
-part-number-start c = search needs
+part-read-start : tie.Need-part-read-start
+part-read-start c = search needs
 
-part-number-end : tie.Need-part-number-end
-part-number-end c = search needs
+part-read-end : tie.Need-part-read-end
+part-read-end c = search needs
 
-number-requires : tie.Need-number-requires
-number-requires c κs = search needs
+read-requires : tie.Need-read-requires
+read-requires c κs = search needs
 
-sub-number-2 : tie.Need-sub-number-2
-sub-number-2 c = search needs
+sub-read-2 : tie.Need-sub-read-2
+sub-read-2 c = search needs
 
-part-number-start-2 : tie.Need-part-number-start-2
-part-number-start-2 c = search needs
+part-read-start-2 : tie.Need-part-read-start-2
+part-read-start-2 c = search needs
 
-part-number-end-2 : tie.Need-part-number-end-2
-part-number-end-2 c = search needs
+part-read-end-2 : tie.Need-part-read-end-2
+part-read-end-2 c = search needs
 
-number-requires-2 : tie.Need-number-requires-2
-number-requires-2 c κs = search needs
+read-requires-2 : tie.Need-read-requires-2
+read-requires-2 c κs = search needs
 
 cast-t14 : tie.Need-cast-t14
 cast-t14 c = search needs
@@ -52,32 +53,34 @@ unfolding headReply
 returns-2 c =
     head-answered _ _ _
     (c .before .before .before .before .before .before .if1 .left)
-    (c .before .before .before .before .number .ensures)
-    (c .before .before .number2 .ensures)
-    _ true (c .before .head-valid .ensures) (c .if2 .taken)
+    (λ p. omega (arith, c .before .before .before .before .before .before .before .shared-slice-known .given p))
+    (c .before .before .before .before .read .ensures)
+    (c .before .before .read2 .ensures)
+    _ true (search needs) (c .before .head-valid .ensures) (c .if2 .taken)
 
 returns-3 : tie.Need-returns-3
 unfolding headReply
 returns-3 c =
     head-answered _ _ _
     (c .before .before .before .before .before .before .if1 .left)
-    (c .before .before .before .before .number .ensures)
-    (c .before .before .number2 .ensures)
-    _ false (c .before .head-valid .ensures) (c .if2 .left)
+    (λ p. omega (arith, c .before .before .before .before .before .before .before .shared-slice-known .given p))
+    (c .before .before .before .before .read .ensures)
+    (c .before .before .read2 .ensures)
+    _ false (search needs) (c .before .head-valid .ensures) (c .if2 .left)
 
 pub unpack-head-spec : {M : Type 1} → statement M
 unpack-head-spec =
     tie.close
     (tie.spec
     returns
-    sub-number
-    part-number-start
-    part-number-end
-    number-requires
-    sub-number-2
-    part-number-start-2
-    part-number-end-2
-    number-requires-2
+    sub-read
+    part-read-start
+    part-read-end
+    read-requires
+    sub-read-2
+    part-read-start-2
+    part-read-end-2
+    read-requires-2
     cast-t14
     cast-t17
     cast-t19

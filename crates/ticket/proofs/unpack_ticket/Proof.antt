@@ -1,9 +1,10 @@
 -- `unpack_ticket` answers as the bytes unpack, refusals included.
 use mathlib.Core.Bool.{true, false}
+use native.Mathlib.Omega.{arith}
 use borrow.Author.Tests.{ne-eqb}
 use borrow.Author.Needs.{needs}
 use Rattle.tape_model.specs.Ticket.{unpackTicket, ticketReply}
-use Rattle.ticket.proofs.Reading.{low-lt, ticket-answered}
+use Rattle.ticket.proofs.Reading.{ticket-answered}
 use Rattle.ticket.proofs.unpack_ticket.Statement.{statement}
 use Rattle.ticket.proofs.unpack_ticket.Tie as tie
 
@@ -11,36 +12,32 @@ returns : tie.Need-returns
 unfolding unpackTicket ticketReply
 returns c = rw (ne-eqb _ _ (c .if1 .taken))
 
-sub-number : tie.Need-sub-number
-sub-number c = search needs
+sub-read : tie.Need-sub-read
+sub-read c = search needs
 
-part-number-start : tie.Need-part-number-start
-part-number-start c = search needs
+part-read-start : tie.Need-part-read-start
+part-read-start c = search needs
 
-part-number-end : tie.Need-part-number-end
-part-number-end c = search needs
+part-read-end : tie.Need-part-read-end
+part-read-end c = search needs
 
-number-requires : tie.Need-number-requires
-number-requires c κs = search needs
+read-requires : tie.Need-read-requires
+read-requires c κs = search needs
 
-sub-number-2 : tie.Need-sub-number-2
-sub-number-2 c = search needs
+sub-read-2 : tie.Need-sub-read-2
+sub-read-2 c = search needs
 
-part-number-start-2 : tie.Need-part-number-start-2
-part-number-start-2 c = search needs
+part-read-start-2 : tie.Need-part-read-start-2
+part-read-start-2 c = search needs
 
-part-number-end-2 : tie.Need-part-number-end-2
-part-number-end-2 c = search needs
+part-read-end-2 : tie.Need-part-read-end-2
+part-read-end-2 c = search needs
 
-number-requires-2 : tie.Need-number-requires-2
-number-requires-2 c κs = search needs
+read-requires-2 : tie.Need-read-requires-2
+read-requires-2 c κs = search needs
 
 ticket-in-requires : tie.Need-ticket-in-requires
-ticket-in-requires c κs =
-    low-lt 8 5 (c .before .before .before .before .before .before .args .packed .now) _ _
-    (c .before .before .before .before .if1 .left)
-    (c .before .before .number .ensures)
-    (c .number2 .ensures)
+ticket-in-requires c κs = search needs
 
 valid-requires : tie.Need-valid-requires
 valid-requires c κs = search needs
@@ -50,32 +47,34 @@ unfolding ticketReply
 returns-2 c =
     ticket-answered _ _ _
     (c .before .before .before .before .before .before .before .if1 .left)
-    (c .before .before .before .before .before .number .ensures)
-    (c .before .before .before .number2 .ensures)
-    _ _ true (c .before .before .ticket-in .ensures) (c .before .valid .ensures) (c .if2 .taken)
+    (λ p. omega (arith, c .before .before .before .before .before .before .before .before .shared-slice-known .given p))
+    (c .before .before .before .before .before .read .ensures)
+    (c .before .before .before .read2 .ensures)
+    _ _ true (search needs) (c .before .before .ticket-in .ensures) (c .before .valid .ensures) (c .if2 .taken)
 
 returns-3 : tie.Need-returns-3
 unfolding ticketReply
 returns-3 c =
     ticket-answered _ _ _
     (c .before .before .before .before .before .before .before .if1 .left)
-    (c .before .before .before .before .before .number .ensures)
-    (c .before .before .before .number2 .ensures)
-    _ _ false (c .before .before .ticket-in .ensures) (c .before .valid .ensures) (c .if2 .left)
+    (λ p. omega (arith, c .before .before .before .before .before .before .before .before .shared-slice-known .given p))
+    (c .before .before .before .before .before .read .ensures)
+    (c .before .before .before .read2 .ensures)
+    _ _ false (search needs) (c .before .before .ticket-in .ensures) (c .before .valid .ensures) (c .if2 .left)
 
 pub unpack-ticket-spec : {M : Type 1} → statement M
 unpack-ticket-spec =
     tie.close
     (tie.spec
     returns
-    sub-number
-    part-number-start
-    part-number-end
-    number-requires
-    sub-number-2
-    part-number-start-2
-    part-number-end-2
-    number-requires-2
+    sub-read
+    part-read-start
+    part-read-end
+    read-requires
+    sub-read-2
+    part-read-start-2
+    part-read-end-2
+    read-requires-2
     ticket-in-requires
     valid-requires
     returns-2

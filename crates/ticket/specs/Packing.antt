@@ -1,0 +1,20 @@
+-- What packing comes to besides the model's: a ticket by itself, and a packed string put into lent bytes.
+use Prim.Native.Nat.{ℕ}
+use mathlib.Core.List.{List}
+use lib.Dec.{ltb}
+use lib.ListN.{length, replicate}
+use Rattle.acorn_model.specs.Bits.{_if_else_}
+use Rattle.acorn_model.specs.Calls.{refused, done, accepted}
+use Rattle.acorn_model.specs.Message.{Result, resultOf}
+use Rattle.tape_model.specs.declared.Ticket.{Ticket}
+use Rattle.tape_model.specs.Ticket.{ticketLength, ticketRule, packTicket}
+
+-- a ticket packed by itself: its bytes, or zeros and 4 where it breaks the rule
+unfoldable pub packedAlone : Ticket → Result ℕ
+packedAlone t =
+    record { answer = done ticketLength; out = packTicket t } if ticketRule t else
+    record { answer = refused 4; out = replicate ticketLength 0 }
+
+-- a packed string put into lent bytes: 6 where they are too few
+unfoldable pub putInto : List ℕ → List ℕ → Result ℕ
+putInto packed out = resultOf (6 if ltb (length out) (length packed) else accepted) (length packed) packed out
