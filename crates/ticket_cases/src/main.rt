@@ -1,9 +1,11 @@
-// Runs document 01's cases (h) to (l) on the code of tickets and heads, and prints what they give.
+// Runs document 01's cases (h) to (l) on the code of tickets and heads, then totals of plain bytes, and prints what they give.
 use acorn_model::Written;
 use tape_model::Head;
+use tape_model::OpenedTape;
 use tape_model::Ticket;
 use tape_model::UnpackedHead;
 use tape_model::UnpackedTicket;
+use ticket::PackedTicket;
 
 // Case (h)'s ticket with these times and weights.
 fn ticket_with(loaded: u32, tipped: u32, gross: u32, tare: u32) -> Ticket {
@@ -90,6 +92,28 @@ fn print_ticket(t: Ticket, out: &mut [u8]) {
     print_unpacked(ticket::unpack_ticket(out));
 }
 
+// A ticket packed by value.
+fn print_by_value(p: PackedTicket) {
+    let answer = p.answer;
+    let bytes = p.bytes;
+    print_packed(answer, &bytes);
+}
+
+fn print_totals(answer: OpenedTape) {
+    match answer {
+        OpenedTape::Refused(n) => {
+            io::write_all(1, b" refused");
+            print_number(n as u64);
+        }
+        OpenedTape::Done(tickets, net) => {
+            print_number(tickets as u64);
+            io::write_all(1, b" net");
+            print_number(net);
+        }
+    }
+    io::write_all(1, b"\n");
+}
+
 fn print_unpacked_head(answer: UnpackedHead) {
     match answer {
         UnpackedHead::Refused(n) => {
@@ -110,6 +134,23 @@ fn print_head(h: Head, out: &mut [u8]) {
     print_packed(ticket::pack_head(h, out), out);
     io::write_all(1, b"unpacked:");
     print_unpacked_head(ticket::unpack_head(out));
+}
+
+fn print_by_value_and_totals() {
+    io::write_all(1, b"(h) by value:");
+    print_by_value(ticket::packed(ticket_with(3600, 4200, 250000, 110000)));
+    io::write_all(1, b"(l) by value:");
+    print_by_value(ticket::packed(ticket_with(3600, 4200, 250000, 250000)));
+    io::write_all(1, b"totals of (h) twice:");
+    print_totals(ticket::totals(
+        b"\x10\x14\x20\xd0\x38\x40\x41\xa0\xf4\x24\x06\xb6\xc0\x10\x14\x20\xd0\x38\x40\x41\xa0\xf4\x24\x06\xb6\xc0",
+    ));
+    io::write_all(1, b"totals with last byte C1:");
+    print_totals(ticket::totals(
+        b"\x10\x14\x20\xd0\x38\x40\x41\xa0\xf4\x24\x06\xb6\xc0\x10\x14\x20\xd0\x38\x40\x41\xa0\xf4\x24\x06\xb6\xc1",
+    ));
+    io::write_all(1, b"totals of 12 bytes:");
+    print_totals(ticket::totals(b"\x10\x14\x20\xd0\x38\x40\x41\xa0\xf4\x24\x06\xb6"));
 }
 
 fn main() {
@@ -138,4 +179,5 @@ fn main() {
     print_unpacked(ticket::unpack_ticket(b"\x10\x14\x20\xd0\x38\x40\x41\xa0\xf4\x24\x06\xb6\xc1"));
     io::write_all(1, b"12 bytes:");
     print_unpacked(ticket::unpack_ticket(b"\x10\x14\x20\xd0\x38\x40\x41\xa0\xf4\x24\x06\xb6"));
+    print_by_value_and_totals();
 }
