@@ -11,8 +11,9 @@ use Rattle.acorn_model.specs.declared.Kind.the-variants.{Sealing, Checking}
 use Rattle.acorn_model.specs.declared.Phase.{Phase}
 use Rattle.acorn_model.specs.declared.Phase.the-variants.{Text, Closed}
 use Rattle.acorn_model.specs.Bits.{Bits, _if_else_}
-use Rattle.acorn_model.specs.Stretches.{through, zeros, dataEnd, textPiece, textEnd, final}
-use Rattle.acorn_model.specs.Machine.{Machine, Counts, isSealing, isChecking, isData, runThrough, enter, cleared, countText, dataEnded, textTaken, textEnded, closed}
+use Rattle.acorn_model.specs.Stretches.{through, zeros, dataEnd, textPiece, textEnd, final, textOut}
+use Rattle.acorn_model.specs.Calls.{writtenOver}
+use Rattle.acorn_model.specs.Machine.{Machine, isSealing, isChecking, isData, runThrough, enter, cleared, countText, dataEnded, textTaken, textEnded, closed}
 use Rattle.acorn.specs.declared.State.{State}
 use Rattle.acorn.specs.Together.{stateOf}
 use Rattle.session.specs.declared.Session.{Session}
@@ -57,13 +58,14 @@ module _ (m : Machine) where
       by true = unfold runThrough in refl
       by false = rw add-zero
 
-  pub ended-state : dataEnded m .state ≡ endedState (m .phase) (m .state)
+  ended-state : dataEnded m .state ≡ endedState (m .phase) (m .state)
+  unfolding endedState
   ended-state = ap (λ (x : Machine). x .state) data-ended
 
 -- ## Text and close
 
-module _ (s : Session) (state : State) (ended n : ℕ) (e : ended ≡ endedSteps (s .phase)) where
-  pub text-session : (piece : List ℕ) → stateOf state ≡ textTaken piece (machineOf s) .state → n ≡ (s .steps + (ended + 8 * length piece)) % 2 ^ 64
+module _ (s : Session) (state : State) (k n : ℕ) (e : k ≡ endedSteps (s .phase)) where
+  pub text-session : (piece : List ℕ) → stateOf state ≡ textTaken piece (machineOf s) .state → n ≡ (s .steps + (k + 8 * length piece)) % 2 ^ 64
       → machineOf (record { state = state; «data_bytes» = s .«data_bytes»; «text_bytes» = s .«text_bytes» + length piece; steps = n; kind = s .kind; phase = Text })
       ≡ wrappedMachine (textTaken piece (machineOf s))
   unfolding textTaken countText enter runThrough machineOf wrapped
@@ -74,7 +76,7 @@ module _ (s : Session) (state : State) (ended n : ℕ) (e : ended ≡ endedSteps
       after : Machine → Machine
       after m = enter Text (countText (length piece) (runThrough (textPiece (isChecking (s .kind)) piece) m))
 
-  pub closed-session : stateOf state ≡ zeros → n ≡ (s .steps + (ended + 1024)) % 2 ^ 64
+  pub closed-session : stateOf state ≡ zeros → n ≡ (s .steps + (k + 1024)) % 2 ^ 64
       → machineOf (record { state = state; «data_bytes» = s .«data_bytes»; «text_bytes» = s .«text_bytes»; steps = n; kind = s .kind; phase = Closed })
       ≡ wrappedMachine (closed (machineOf s))
   unfolding closed textEnded cleared enter runThrough machineOf wrapped
@@ -85,16 +87,25 @@ module _ (s : Session) (state : State) (ended n : ℕ) (e : ended ≡ endedSteps
       after : Machine → Machine
       after m = enter Closed (cleared (runThrough final (runThrough textEnd m)))
 
--- the state that a piece of text leads to, from the state D after the data end
-pub text-state : (s : Session) (piece : List ℕ) (opening : Bool) (D : Bits) → isChecking (s .kind) ≡ opening → D ≡ endedState (s .phase) (stateOf (s .state))
-    → through (textPiece opening piece) D ≡ textTaken piece (machineOf s) .state
-unfolding textTaken countText enter runThrough machineOf
-text-state s piece opening D k d = ap₂ (λ (o : Bool) (S : Bits). through (textPiece o piece) S) (sym k) (d ∙ sym (ended-state (machineOf s)))
+-- after the data end, the session's and the machine's: the state that a piece of text leads to, the ciphertext written, and the state before final
+module _ (s : Session) where
+  abbrev ended : Bits
+  ended = endedState (s .phase) (stateOf (s .state))
 
--- the state before final, likewise
-pub text-ended-state : (s : Session) (D E : Bits) → D ≡ endedState (s .phase) (stateOf (s .state)) → E ≡ through textEnd D → E ≡ textEnded (machineOf s) .state
-unfolding textEnded runThrough machineOf
-text-ended-state s D E d e = e ∙ ap (through textEnd) (d ∙ sym (ended-state (machineOf s)))
+  is-ended : ended ≡ dataEnded (machineOf s) .state
+  unfolding machineOf
+  is-ended = sym (ended-state (machineOf s))
+
+  pub text-state : (piece : List ℕ) (opening : Bool) → isChecking (s .kind) ≡ opening → through (textPiece opening piece) ended ≡ textTaken piece (machineOf s) .state
+  unfolding textTaken countText enter runThrough machineOf
+  text-state piece opening k = ap₂ (λ (o : Bool) (S : Bits). through (textPiece o piece) S) (sym k) is-ended
+
+  pub sealed-output : (piece out : List ℕ) → writtenOver (textOut false piece ended) out ≡ writtenOver (textOut false piece (dataEnded (machineOf s) .state)) out
+  sealed-output piece out = ap (λ (S : Bits). writtenOver (textOut false piece S) out) is-ended
+
+  pub closing-state : through textEnd ended ≡ textEnded (machineOf s) .state
+  unfolding textEnded runThrough
+  closing-state = ap (through textEnd) is-ended
 
 -- a call that only sealing sessions take
 pub sealing-only : (kind : Kind) (t : Bool) → (isSealing kind && t) ≡ true → isChecking kind ≡ false

@@ -5,16 +5,18 @@ use mathlib.Core.List.{List, []}
 use Prim.Native.Nat.{ℕ, zero, suc, _<_, _^_}
 use native.Mathlib.Omega.{arith}
 use lib.ListN.{length}
-use Rattle.acorn_model.specs.declared.Answer.{Answer}
-use Rattle.acorn_model.specs.declared.Answer.the-variants.{Refused, Done}
 use Rattle.acorn_model.specs.Bits.{_if_else_}
 use Rattle.acorn_model.specs.Stretches.{tagOf}
-use Rattle.acorn_model.specs.Calls.{Work, done, answerReply, accepted, unlessRefused, writtenOver, sameBytes, Outcome, refusedWith}
+use Rattle.acorn_model.specs.Calls.{done, answerReply, accepted, unlessRefused, writtenOver, sameBytes, refusedWith}
 use Rattle.acorn_model.specs.Machine.{Machine, Call, checkClose, outputOf, phaseAllows, sizesRight, overLimit, outputShort, refusal, textEnded, closed, answered, wrote, verdict, work, call}
 use Rattle.session.specs.declared.Session.{Session}
 use Rattle.session.specs.declared.Reply.{Reply as SessionReply}
-use Rattle.session.specs.Contracts.{machineOf, outcomeOf, wrappedMachine, wrappedOutcome, Called}
+use Rattle.session.specs.Contracts.{machineOf, outcomeOf, wrappedMachine, wrappedOutcome, Called, refusedReply, doneReply}
 use Rattle.session.proofs.Wrapping.{judged, within, wrote-wrapped, judged-wrapped, refused-wrapped}
+
+-- n is the refusal number of the call c of the session s
+pub record Numbered (s : Session) (c : Call) (n : ℕ) : Type 0 where
+  pub is : n ≡ refusal (machineOf s) c
 
 -- ## No number applies
 
@@ -43,44 +45,48 @@ unfolding unlessRefused
 accepted-if zero a b z = refl
 accepted-if (suc n) a b z = absurd (omega arith)
 
-module _ (s : Session) (c : Call) (n : ℕ) (e : n ≡ refusal (machineOf s) c) where
+module _ {s : Session} {c : Call} {n : ℕ} (e : Numbered s c n) where
   pub passes : n ≡ 0 → Passes (machineOf s) c
   unfolding refusal
   passes z =
-      let t = chain (phaseAllows (machineOf s .kind) (machineOf s .phase) c) (sizesRight c) (overLimit (machineOf s .counts) c) (outputShort c) (sym e ∙ z) in
+      let t = chain (phaseAllows (machineOf s .kind) (machineOf s .phase) c) (sizesRight c) (overLimit (machineOf s .counts) c) (outputShort c) (sym (e .is) ∙ z) in
       record { allowed = t .0; sized = t .1; fits = t .2; room = t .3 }
 
   -- ## Outcomes
 
   -- a refused call hands the session on as it was
-  pub refuses : (n ≡ 0 → ⊥) → s .steps < 2 ^ 64 → Called s c (record { answer = Refused n; session = s }) (outputOf c)
+  pub refuses : (n ≡ 0 → ⊥) → s .steps < 2 ^ 64 → (r : SessionReply) → r ≡ refusedReply n s → Called s c r (outputOf c)
   unfolding outcomeOf answerReply call refusedWith machineOf
-  refuses z h =
-      ap (λ (m : Machine). refusedWith n m (outputOf c)) (sym (within (machineOf s) h)) ∙ sym (refused-wrapped n (outputOf c) (machineOf s))
-      ∙ ap wrappedOutcome (rw (← e) (sym (refused-if n (work (machineOf s) c) (refusedWith n (machineOf s) (outputOf c)) z)))
+  refuses z h r reply =
+      ap (λ (x : SessionReply). outcomeOf x (outputOf c)) reply
+      ∙ ap (λ (m : Machine). refusedWith n m (outputOf c)) (sym (within (machineOf s) h)) ∙ sym (refused-wrapped n (outputOf c) (machineOf s))
+      ∙ ap wrappedOutcome (rw (← e .is) (sym (refused-if n (work (machineOf s) c) (refusedWith n (machineOf s) (outputOf c)) z)))
 
   works : n ≡ 0 → wrappedOutcome (work (machineOf s) c) ≡ wrappedOutcome (call (machineOf s) c)
   unfolding call
-  works z = ap wrappedOutcome (sym (accepted-if (refusal (machineOf s) c) _ _ (sym e ∙ z)))
+  works z = ap wrappedOutcome (sym (accepted-if (refusal (machineOf s) c) _ _ (sym (e .is) ∙ z)))
 
   -- an accepted call led to the session z and wrote
   pub writes : n ≡ 0 → (written out : List ℕ) (m : Machine) → work (machineOf s) c ≡ wrote written m out
-      → (z : Session) (bytes : ℕ) (out′ : List ℕ) → machineOf z ≡ wrappedMachine m → bytes ≡ length written → out′ ≡ writtenOver written out
-      → Called s c (record { answer = Done bytes (z .steps); session = z }) out′
-  writes a written out m w z bytes out′ p b o =
-      same ∙ sym (wrote-wrapped written out m) ∙ ap wrappedOutcome (sym w) ∙ works a
+      → (z : Session) → machineOf z ≡ wrappedMachine m → (bytes : ℕ) → bytes ≡ length written → (out′ : List ℕ) → out′ ≡ writtenOver written out
+      → (r : SessionReply) → r ≡ doneReply bytes z → Called s c r out′
+  writes accepts written out m w z p bytes b out′ o r reply =
+      ap (λ (x : SessionReply). outcomeOf x out′) reply ∙ same ∙ sym (wrote-wrapped written out m) ∙ ap wrappedOutcome (sym w) ∙ works accepts
     where
-      same : outcomeOf (record { answer = Done bytes (z .steps); session = z }) out′ ≡ wrote written (wrappedMachine m) out
+      same : outcomeOf (doneReply bytes z) out′ ≡ wrote written (wrappedMachine m) out
       same = unfold outcomeOf answerReply wrote answered machineOf in
           λ i. record { next = p i; answer = done (record { bytes = b i; steps = p i .counts .steps }); out = o i }
 
--- an accepted checking close led to the session z and judged the tag
-pub judges : (s : Session) (tag : List ℕ) (n : ℕ) → n ≡ refusal (machineOf s) (checkClose tag) → n ≡ 0
-    → (z : Session) (a : Answer) (good : Bool) → machineOf z ≡ wrappedMachine (closed (machineOf s)) → good ≡ sameBytes tag (tagOf (textEnded (machineOf s) .state))
-    → answerReply a ≡ verdict good (machineOf z) → Called s (checkClose tag) (record { answer = a; session = z }) []
-unfolding work
-judges s tag n e accepts z a good p g v =
-    same ∙ sym (judged-wrapped (sameBytes tag (tagOf (textEnded (machineOf s) .state))) (closed (machineOf s))) ∙ works s (checkClose tag) n e accepts
-  where
-    same : outcomeOf (record { answer = a; session = z }) [] ≡ judged (sameBytes tag (tagOf (textEnded (machineOf s) .state))) (wrappedMachine (closed (machineOf s)))
-    same = unfold outcomeOf in λ i. record { next = p i; answer = (v ∙ ap₂ verdict g p) i; out = [] }
+-- an accepted checking close led to the session z, and the tag is right or wrong
+module _ {s : Session} {tag : List ℕ} {n : ℕ} (e : Numbered s (checkClose tag) n) (accepts : n ≡ 0) (z : Session) (p : machineOf z ≡ wrappedMachine (closed (machineOf s))) where
+  judges : (good : Bool) → good ≡ sameBytes tag (tagOf (textEnded (machineOf s) .state)) → (r : SessionReply) → outcomeOf r [] ≡ judged good (machineOf z) → Called s (checkClose tag) r []
+  unfolding work
+  judges good g r o = o ∙ ap₂ judged g p ∙ sym (judged-wrapped _ (closed (machineOf s))) ∙ works e accepts
+
+  pub right-tag : true ≡ sameBytes tag (tagOf (textEnded (machineOf s) .state)) → (r : SessionReply) → r ≡ doneReply 0 z → Called s (checkClose tag) r []
+  unfolding outcomeOf answerReply verdict answered machineOf
+  right-tag g r reply = judges true g r (ap (λ (x : SessionReply). outcomeOf x []) reply)
+
+  pub wrong-tag : false ≡ sameBytes tag (tagOf (textEnded (machineOf s) .state)) → (r : SessionReply) → r ≡ refusedReply 7 z → Called s (checkClose tag) r []
+  unfolding outcomeOf answerReply verdict
+  wrong-tag g r reply = judges false g r (ap (λ (x : SessionReply). outcomeOf x []) reply)

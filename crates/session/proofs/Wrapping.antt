@@ -1,5 +1,5 @@
--- Counts that go round at 2 ^ 64: a call on a machine whose count went round comes to the same, but for the going round; and below 2 ^ 64
--- nothing goes round, so that what a session's call comes to is what the machine does.
+-- Counts that go round at 2 ^ 64. A call on a machine whose count went round comes to the same once the count goes round (`wrapped-call`); an
+-- outcome whose count is below 2 ^ 64 stays as it is (`call-within`), and what a session's call comes to is then what the machine does.
 use mathlib.Core.Path.{_≡_, refl, sym, ap, ap₂, _∙_}
 use mathlib.Core.Bool.{Bool, true, false}
 use mathlib.Core.List.{List, []}
@@ -11,7 +11,7 @@ use Rattle.acorn_model.specs.declared.Phase.the-variants.{Data, Text, Closed}
 use Rattle.acorn_model.specs.Bits.{_if_else_}
 use Rattle.acorn_model.specs.Stretches.{Stretch, through, start, dataPiece, dataEnd, textPiece, textEnd, final, textOut, tagOf}
 use Rattle.acorn_model.specs.Calls.{Work, unlessRefused, sameBytes, Outcome, refusedWith}
-use Rattle.acorn_model.specs.Machine.{Machine, Counts, Call, begin, dataCall, sealText, checkText, sealClose, checkClose, outputOf, isChecking, isData, phaseAllows, overLimit, refusal, runThrough, enter, cleared, countData, countText, begun, dataTaken, dataEnded, textTaken, textEnded, closed, answered, wrote, verdict, work, call}
+use Rattle.acorn_model.specs.Machine.{Machine, Call, begin, dataCall, sealText, checkText, sealClose, checkClose, outputOf, isChecking, isData, phaseAllows, overLimit, refusal, runThrough, enter, cleared, countData, countText, begun, dataTaken, dataEnded, textTaken, textEnded, closed, answered, wrote, verdict, work, call}
 use Rattle.session.specs.declared.Session.{Session}
 use Rattle.session.specs.declared.Reply.{Reply as SessionReply}
 use Rattle.session.specs.Contracts.{machineOf, outcomeOf, wrapped, wrappedMachine, wrappedReply, wrappedOutcome, Called}
@@ -85,7 +85,7 @@ module _ (a b : Machine) (e : wrappedMachine a ≡ wrappedMachine b) where
   same-ended = by (isData (a .phase)) ∙ ap (λ (m : Machine). wrappedMachine (runThrough dataEnd b if isData (m .phase) else b)) e
     where
       by : (t : Bool) → wrappedMachine (runThrough dataEnd a if t else a) ≡ wrappedMachine (runThrough dataEnd b if t else b)
-      by true = runs (dataEnd) a b e
+      by true = runs dataEnd a b e
       by false = e
 
   same-text : (piece : List ℕ) → wrappedMachine (textTaken piece a) ≡ wrappedMachine (textTaken piece b)
@@ -124,6 +124,7 @@ module _ (a b : Machine) (e : wrappedMachine a ≡ wrappedMachine b) where
   same-unlessRefused (suc n) c =
       refused-wrapped (suc n) (outputOf c) a ∙ ap (λ (m : Machine). refusedWith (suc n) m (outputOf c)) e ∙ sym (refused-wrapped (suc n) (outputOf c) b)
 
+  -- a call's outcomes are the same, once the counts go round
   pub same-call : (c : Call) → wrappedOutcome (call a c) ≡ wrappedOutcome (call b c)
   unfolding call
   same-call c =

@@ -4,10 +4,12 @@ use mathlib.Core.Bool.{Bool}
 use mathlib.Core.List.{List}
 use Prim.Native.Nat.{ℕ, _%_, _^_}
 use Rattle.acorn_model.specs.declared.Phase.{Phase}
+use Rattle.acorn_model.specs.declared.Answer.the-variants.{Refused, Done}
 use Rattle.acorn_model.specs.Bits.{Bits, _if_else_}
 use Rattle.acorn_model.specs.Stretches.{through, dataEnd}
 use Rattle.acorn_model.specs.Calls.{Reply, refused, done, Work, Outcome, answerReply}
-use Rattle.acorn_model.specs.Machine.{Machine, Counts, Call, isData, phaseAllows, sizesRight, overLimit, outputShort, refusal, call}
+use Rattle.acorn_model.specs.Machine.{Machine, Call, isData, phaseAllows, sizesRight, overLimit, outputShort, refusal, textTaken, call}
+use Rattle.acorn.specs.declared.State.{State}
 use Rattle.acorn.specs.Together.{stateOf}
 use Rattle.session.specs.declared.Session.{Session}
 use Rattle.session.specs.declared.Reply.{Reply as SessionReply}
@@ -56,8 +58,15 @@ Called s c r out = outcomeOf r out ≡ wrappedOutcome (call (machineOf s) c)
 
 -- ## What the private functions cite
 
+-- replies with a refusal number, and with the bytes written and the session's steps
+abbrev pub refusedReply : ℕ → Session → SessionReply
+refusedReply number s = record { answer = Refused number; session = s }
+
+abbrev pub doneReply : ℕ → Session → SessionReply
+doneReply bytes s = record { answer = Done bytes (s .steps); session = s }
+
 -- the state after the data end, which text and close run first where the phase is data, and the steps of that
-abbrev pub endedState : Phase → Bits → Bits
+unfoldable pub endedState : Phase → Bits → Bits
 endedState phase S = through dataEnd S if isData phase else S
 
 abbrev pub endedSteps : Phase → ℕ
@@ -68,3 +77,7 @@ abbrev pub IsRefusal : Bool → Bool → Bool → Bool → ℕ → Type 0
 IsRefusal allowed sized over short r =
     (m : Machine) (c : Call) → phaseAllows (m .kind) (m .phase) c ≡ allowed → sizesRight c ≡ sized → overLimit (m .counts) c ≡ over → outputShort c ≡ short
     → r ≡ refusal m c
+
+-- the session z after a piece of text, where `state` is what the piece led to
+abbrev pub TextTaken : Session → List ℕ → State → Session → Type 0
+TextTaken s piece state z = stateOf state ≡ textTaken piece (machineOf s) .state → machineOf z ≡ wrappedMachine (textTaken piece (machineOf s))

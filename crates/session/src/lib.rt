@@ -1,12 +1,11 @@
 // A session of ACORN-128 v3. Every call takes the session and hands back the session after it, with an answer: a refusal number, or the bytes
 // that the call wrote and the steps run since the session was fresh. A refused call changes nothing, but that a wrong tag closes.
 pub mod compare;
+mod phase_runs;
 mod refusal;
 
 use acorn::State;
 use acorn::absorb_data;
-use acorn::end_data;
-use acorn::end_text;
 use acorn::start;
 use acorn::tag as tag_of;
 use acorn::write_tag;
@@ -15,11 +14,14 @@ use acorn_model::Answer;
 use acorn_model::Kind;
 use acorn_model::Phase;
 use compare::same_bytes;
+use phase_runs::ciphertext_taken;
+use phase_runs::data_end_steps;
+use phase_runs::data_ended;
+use phase_runs::text_ended;
 use refusal::is_checking;
 use refusal::is_data;
 use refusal::is_fresh;
 use refusal::is_sealing;
-use refusal::number;
 use refusal::over_limit;
 use refusal::takes_text;
 use std::num::wrapping_add_u64;
@@ -27,10 +29,8 @@ ghost use mathlib.Core.Path.{_≡_};
 ghost use mathlib.Core.List.{[]};
 ghost use Prim.Native.Nat.{_+_, _≤_};
 ghost use lib.ListN.{length};
-ghost use Rattle.acorn_model.specs.Calls.{answerReply};
 ghost use Rattle.acorn_model.specs.Machine as machine;
-ghost use Rattle.acorn.specs.Together.{stateOf};
-ghost use Rattle.session.specs.Contracts.{machineOf, wrappedMachine, Called, endedState, endedSteps};
+ghost use Rattle.session.specs.Contracts.{machineOf, wrappedMachine, Called, refusedReply, doneReply, TextTaken};
 
 pub struct Session {
     state: State,
@@ -47,36 +47,8 @@ pub struct Reply {
     pub session: Session,
 }
 
-// Text and close first run the data end, where the session is still in data.
-fn data_ended(phase: Phase, state: State) -> State
-    ensures { λ r. ⌜ stateOf r ≡ endedState phase (stateOf state) ⌝ }
-{
-    if is_data(phase) {
-        end_data(state)
-    } else {
-        state
-    }
-}
-
-// The steps of that.
-fn data_end_steps(phase: Phase) -> u64
-    ensures { λ r. ⌜ r ≡ endedSteps phase ⌝ }
-{
-    if is_data(phase) { 256 } else { 0 }
-}
-
-// Good, or 7.
-fn verdict(good: bool, closed: Session) -> Answer
-    ensures { λ r. ⌜ answerReply r ≡ machine.verdict good (machineOf closed) ⌝ }
-{
-    if good {
-        Answer::Done(0, closed.steps)
-    } else {
-        Answer::Refused(7)
-    }
-}
-
 impl Session {
+    // A session that no call has reached.
     pub fn fresh(kind: Kind) -> Session
         ensures { λ r. ⌜ machineOf r ≡ machine.fresh kind ⌝ }
     {
@@ -90,69 +62,86 @@ impl Session {
         }
     }
 
+    // A call is sent back, or its tag was wrong.
+    fn refused(self, number: u8) -> Reply
+        ensures { λ r. ⌜ r ≡ refusedReply number self ⌝ }
+    {
+        Reply {
+            answer: Answer::Refused(number),
+            session: self,
+        }
+    }
+
+    // An accepted call led to this session and wrote so many bytes.
+    fn done(self, bytes: usize) -> Reply
+        ensures { λ r. ⌜ r ≡ doneReply bytes self ⌝ }
+    {
+        Reply {
+            answer: Answer::Done(bytes, self.steps),
+            session: self,
+        }
+    }
+
+    // Start runs, with a key and a nonce of 16 bytes.
     pub fn begin(self, key: &[u8], nonce: &[u8]) -> Reply
         ensures { λ r. ⌜ Called self (machine.begin (now (key .entry)) (now (nonce .entry))) r [] ⌝ }
     {
         let phase = self.phase;
+        let allowed = is_fresh(phase);
         let sized = (key.len() == 16) & (nonce.len() == 16);
-        let number = number(is_fresh(phase), sized, false, false);
+        let number = refusal::number(allowed, sized, false, false);
         if number != 0 {
-            return Reply {
-                answer: Answer::Refused(number),
-                session: self,
-            };
+            return self.refused(number);
         }
-        let state = start(key, nonce);
+        let started = start(key, nonce);
         let steps = wrapping_add_u64(self.steps, 1792);
-        Reply {
-            answer: Answer::Done(0, steps),
-            session: Session {
-                state,
-                steps,
-                phase: Phase::Data,
-                ..self
-            },
-        }
+        let begun = Session {
+            state: started,
+            steps,
+            phase: Phase::Data,
+            ..self
+        };
+        begun.done(0)
     }
 
+    // A piece of data goes into the state.
     pub fn data(self, piece: &[u8]) -> Reply
         ensures { λ r. ⌜ Called self (machine.dataCall (now (piece .entry))) r [] ⌝ }
     {
         let phase = self.phase;
         let taken = self.data_bytes;
-        let number = number(is_data(phase), true, over_limit(taken, piece.len()), false);
+        let allowed = is_data(phase);
+        let over = over_limit(taken, piece.len());
+        let number = refusal::number(allowed, true, over, false);
         if number != 0 {
-            return Reply {
-                answer: Answer::Refused(number),
-                session: self,
-            };
+            return self.refused(number);
         }
         let held = self.state;
-        let state = absorb_data(held, piece);
+        let absorbed = absorb_data(held, piece);
         let n = piece.len() as u64;
+        let data_bytes = taken + n;
         let steps = wrapping_add_u64(self.steps, 8 * n);
-        Reply {
-            answer: Answer::Done(0, steps),
-            session: Session {
-                state,
-                data_bytes: taken + n,
-                steps,
-                ..self
-            },
-        }
+        let next = Session {
+            state: absorbed,
+            data_bytes,
+            steps,
+            ..self
+        };
+        next.done(0)
     }
 
     // The session after a piece of text, with the state that the piece led to.
     fn text_taken(self, piece: &[u8], state: State) -> Session
         requires { ⌜ self .«text_bytes» + length (now piece) ≤ machine.byteLimit ⌝ }
-        ensures { λ r. ⌜ (stateOf state ≡ machine.textTaken (now (piece .entry)) (machineOf self) .state → machineOf r ≡ wrappedMachine (machine.textTaken (now (piece .entry)) (machineOf self))) ⌝ }
+        ensures { λ r. ⌜ TextTaken self (now (piece .entry)) state r ⌝ }
     {
         let phase = self.phase;
         let n = piece.len() as u64;
+        let text_bytes = self.text_bytes + n;
         let steps = wrapping_add_u64(self.steps, data_end_steps(phase) + 8 * n);
         Session {
             state,
-            text_bytes: self.text_bytes + n,
+            text_bytes,
             steps,
             phase: Phase::Text,
             ..self
@@ -166,26 +155,17 @@ impl Session {
         let kind = self.kind;
         let phase = self.phase;
         let taken = self.text_bytes;
+        let allowed = is_sealing(kind) & takes_text(phase);
         let over = over_limit(taken, piece.len());
-        let number = number(
-            is_sealing(kind) & takes_text(phase),
-            true,
-            over,
-            out.len() < piece.len(),
-        );
+        let short = out.len() < piece.len();
+        let number = refusal::number(allowed, true, over, short);
         if number != 0 {
-            return Reply {
-                answer: Answer::Refused(number),
-                session: self,
-            };
+            return self.refused(number);
         }
         let held = self.state;
-        let state = acorn::seal_text(data_ended(phase, held), piece, out);
-        let session = self.text_taken(piece, state);
-        Reply {
-            answer: Answer::Done(piece.len(), session.steps),
-            session,
-        }
+        let sealed = acorn::seal_text(data_ended(phase, held), piece, out);
+        let next = self.text_taken(piece, sealed);
+        next.done(piece.len())
     }
 
     // A checking session takes ciphertext, and writes nothing.
@@ -195,21 +175,16 @@ impl Session {
         let kind = self.kind;
         let phase = self.phase;
         let taken = self.text_bytes;
+        let allowed = is_checking(kind) & takes_text(phase);
         let over = over_limit(taken, piece.len());
-        let number = number(is_checking(kind) & takes_text(phase), true, over, false);
+        let number = refusal::number(allowed, true, over, false);
         if number != 0 {
-            return Reply {
-                answer: Answer::Refused(number),
-                session: self,
-            };
+            return self.refused(number);
         }
         let held = self.state;
-        let state = acorn::check_text(data_ended(phase, held), piece);
-        let session = self.text_taken(piece, state);
-        Reply {
-            answer: Answer::Done(0, session.steps),
-            session,
-        }
+        let checked = ciphertext_taken(phase, held, piece);
+        let next = self.text_taken(piece, checked);
+        next.done(0)
     }
 
     // The session after its last stretches, which keeps nothing of the state.
@@ -232,25 +207,16 @@ impl Session {
     {
         let kind = self.kind;
         let phase = self.phase;
-        let number = number(
-            is_sealing(kind) & takes_text(phase),
-            true,
-            false,
-            out.len() < 16,
-        );
+        let allowed = is_sealing(kind) & takes_text(phase);
+        let short = out.len() < 16;
+        let number = refusal::number(allowed, true, false, short);
         if number != 0 {
-            return Reply {
-                answer: Answer::Refused(number),
-                session: self,
-            };
+            return self.refused(number);
         }
         let held = self.state;
-        write_tag(end_text(data_ended(phase, held)), out);
-        let session = self.closed();
-        Reply {
-            answer: Answer::Done(16, session.steps),
-            session,
-        }
+        write_tag(text_ended(phase, held), out);
+        let closed = self.closed();
+        closed.done(16)
     }
 
     // A checking session is given a tag, and answers good or 7.
@@ -259,25 +225,20 @@ impl Session {
     {
         let kind = self.kind;
         let phase = self.phase;
-        let number = number(
-            is_checking(kind) & takes_text(phase),
-            tag.len() == 16,
-            false,
-            false,
-        );
+        let allowed = is_checking(kind) & takes_text(phase);
+        let sized = tag.len() == 16;
+        let number = refusal::number(allowed, sized, false, false);
         if number != 0 {
-            return Reply {
-                answer: Answer::Refused(number),
-                session: self,
-            };
+            return self.refused(number);
         }
         let held = self.state;
-        let expected = tag_of(end_text(data_ended(phase, held)));
+        let expected = tag_of(text_ended(phase, held));
         let good = same_bytes(tag, &expected);
-        let session = self.closed();
-        Reply {
-            answer: verdict(good, session),
-            session,
+        let closed = self.closed();
+        if good {
+            closed.done(0)
+        } else {
+            closed.refused(7)
         }
     }
 }

@@ -1,35 +1,29 @@
 -- `Session::check_close` meets its contract.
 use mathlib.Core.Path.{_≡_, refl, sym, ap, ap₂, _∙_}
 use mathlib.Core.Bool.{_&&_}
-use mathlib.Core.List.{List}
-use Prim.Native.Nat.{ℕ}
 use native.Mathlib.Omega.{arith}
 use borrow.Author.Needs.{needs}
 use Rattle.acorn_model.specs.Stretches.{tagOf}
 use Rattle.acorn_model.specs.Calls.{sameBytes}
-use Rattle.acorn_model.specs.Machine.{checkClose, outputOf, phaseAllows, sizesRight, overLimit, outputShort, refusal}
+use Rattle.acorn_model.specs.Machine.{checkClose, outputOf, phaseAllows, sizesRight, overLimit, outputShort, textEnded}
 use Rattle.session.specs.Contracts.{machineOf}
-use Rattle.session.proofs.NextSession.{text-ended-state}
-use Rattle.session.proofs.Replies.{refuses, judges}
+use Rattle.session.proofs.NextSession.{closing-state}
+use Rattle.session.proofs.Replies.{Numbered, refuses, right-tag, wrong-tag}
 use Rattle.session.proofs.Session.check_close.Statement.{statement}
 use Rattle.session.proofs.Session.check_close.Tie as tie
-use Rattle.session.proofs.Session.check_close.Reads as reads
-use Rattle.session.proofs.Session.check_close.Lts as lts
-use Rattle.acorn.proofs.end_text.Reads as end-text-reads
-use Rattle.acorn.proofs.tag.Reads as tag-reads
-use Rattle.session.proofs.Session.closed.Reads as closed-reads
-use Rattle.session.proofs.compare.same_bytes.Reads as same-bytes-reads
-use Rattle.session.proofs.data_ended.Reads as data-ended-reads
-use Rattle.session.proofs.refusal.is_checking.Reads as is-checking-reads
-use Rattle.session.proofs.refusal.number.Reads as number-reads
-use Rattle.session.proofs.refusal.takes_text.Reads as takes-text-reads
-use Rattle.session.proofs.verdict.Reads as verdict-reads
 
-number-is : (c : tie.After-number) → let a = c .before .before .before .before .args in c .number .result ≡ refusal (machineOf (a .self)) (checkClose (a .tag .now))
+number-is : (c : tie.After-number) → let a = c .before .before .before .before .args in Numbered (a .self) (checkClose (a .tag .now)) (c .number .result)
 unfolding machineOf phaseAllows sizesRight overLimit outputShort
 number-is c =
-    let a = c .before .before .before .before .args in
-    c .number .ensures (machineOf (a .self)) (checkClose (a .tag .now)) (sym (ap₂ _&&_ (c .before .before .is-checking .ensures) (c .before .takes-text .ensures))) refl refl refl
+    let allowed = ap₂ _&&_ (c .before .before .is-checking .ensures) (c .before .takes-text .ensures) in
+    record { is = c .number .ensures _ _ (sym allowed) refl refl refl }
+
+good-is : (c : tie.After-same-bytes) → let a = c .before .before .before .before .before .before .before .before .before .before .args in
+    c .same-bytes .result ≡ sameBytes (a .tag .now) (tagOf (textEnded (machineOf (a .self)) .state))
+good-is c =
+    let a = c .before .before .before .before .before .before .before .before .before .before .args in
+    let tagged = c .before .before in
+    c .same-bytes .ensures ∙ ap (sameBytes (a .tag .now)) (tagged .tag .ensures ∙ ap tagOf (tagged .before .text-ended .ensures ∙ closing-state (a .self)))
 
 is-checking-requires : tie.Need-is-checking-requires
 is-checking-requires c κs = search needs
@@ -40,17 +34,15 @@ takes-text-requires c κs = search needs
 number-requires : tie.Need-number-requires
 number-requires c κs = search needs
 
+refused-requires : tie.Need-refused-requires
+refused-requires c κs = search needs
+
 returns : tie.Need-returns
 unfolding outputOf
-returns c =
-    let a = c .before .before .before .before .before .args in
-    refuses (a .self) (checkClose (a .tag .now)) (c .before .number .result) (number-is (c .before)) (c .if1 .taken) (omega arith)
+returns c = refuses (number-is (c .before .before)) (c .before .if1 .taken) (omega arith) _ (c .refused .ensures)
 
-data-ended-requires : tie.Need-data-ended-requires
-data-ended-requires c κs = search needs
-
-end-text-requires : tie.Need-end-text-requires
-end-text-requires c κs = search needs
+text-ended-requires : tie.Need-text-ended-requires
+text-ended-requires c κs = search needs
 
 tag-requires : tie.Need-tag-requires
 tag-requires c κs = search needs
@@ -64,19 +56,23 @@ same-bytes-requires c κs = search needs
 closed-requires : tie.Need-closed-requires
 closed-requires c κs = search needs
 
-verdict-requires : tie.Need-verdict-requires
-verdict-requires c κs = search needs
+done-requires : tie.Need-done-requires
+done-requires c κs = search needs
+
+refused-requires-2 : tie.Need-refused-requires-2
+refused-requires-2 c κs = search needs
 
 returns-2 : tie.Need-returns-2
 returns-2 c =
-    let tagged = c .before .before .before .before in
-    let ended = tagged .before .before in
-    let accept = ended .before .before in
-    let n = accept .before in
-    let a = n .before .before .before .before .args in
-    let state = text-ended-state (a .self) _ _ (ended .data-ended .ensures) (tagged .before .end-text .ensures) in
-    let good = c .before .before .same-bytes .ensures ∙ ap (sameBytes (a .tag .now)) (tagged .tag .ensures ∙ ap tagOf state) in
-    judges (a .self) (a .tag .now) (n .number .result) (number-is n) (accept .if1 .left) (c .before .closed .result) (c .verdict .result) _ (c .before .closed .ensures) good (c .verdict .ensures)
+    let closed = c .before .before in
+    let accept = closed .before .before .before .before .before .before in
+    right-tag (number-is (accept .before)) (accept .if1 .left) _ (closed .closed .ensures) (sym (c .before .if2 .taken) ∙ good-is (closed .before)) _ (c .done .ensures)
+
+returns-3 : tie.Need-returns-3
+returns-3 c =
+    let closed = c .before .before in
+    let accept = closed .before .before .before .before .before .before in
+    wrong-tag (number-is (accept .before)) (accept .if1 .left) _ (closed .closed .ensures) (sym (c .before .if2 .left) ∙ good-is (closed .before)) _ (c .refused2 .ensures)
 
 pub check-close-spec : {M : Type 1} → statement M
 check-close-spec =
@@ -85,12 +81,14 @@ check-close-spec =
     is-checking-requires
     takes-text-requires
     number-requires
+    refused-requires
     returns
-    data-ended-requires
-    end-text-requires
+    text-ended-requires
     tag-requires
     slice-aggregate-same-bytes
     same-bytes-requires
     closed-requires
-    verdict-requires
-    returns-2)
+    done-requires
+    refused-requires-2
+    returns-2
+    returns-3)

@@ -1,5 +1,4 @@
 -- `Session::closed` meets its contract.
-use mathlib.Core.Path.{_≡_}
 use native.Mathlib.Omega.{arith}
 use borrow.Author.Needs.{needs}
 use Rattle.session.proofs.NextSession.{ended-steps-small, closed-session}

@@ -1,0 +1,43 @@
+// What runs by the phase: text and close first run the data end, where the session is still in data.
+use super::refusal::is_data;
+use acorn::State;
+use acorn::check_text;
+use acorn::end_data;
+use acorn::end_text;
+use acorn_model::Phase;
+ghost use mathlib.Core.Path.{_≡_};
+ghost use mathlib.Core.Bool.{true};
+ghost use Rattle.acorn_model.specs.Stretches.{through, textPiece, textEnd};
+ghost use Rattle.acorn.specs.Together.{stateOf};
+ghost use Rattle.session.specs.Contracts.{endedState, endedSteps};
+
+pub(crate) fn data_ended(phase: Phase, state: State) -> State
+    ensures { λ r. ⌜ stateOf r ≡ endedState phase (stateOf state) ⌝ }
+{
+    if is_data(phase) {
+        end_data(state)
+    } else {
+        state
+    }
+}
+
+// The steps of that data end.
+pub(crate) fn data_end_steps(phase: Phase) -> u64
+    ensures { λ r. ⌜ r ≡ endedSteps phase ⌝ }
+{
+    if is_data(phase) { 256 } else { 0 }
+}
+
+// A checking session's text: ciphertext is given, and the text's bits enter the state.
+pub(crate) fn ciphertext_taken(phase: Phase, state: State, piece: &[u8]) -> State
+    ensures { λ r. ⌜ stateOf r ≡ through (textPiece true (now (piece .entry))) (endedState phase (stateOf state)) ⌝ }
+{
+    check_text(data_ended(phase, state), piece)
+}
+
+// The state before final.
+pub(crate) fn text_ended(phase: Phase, state: State) -> State
+    ensures { λ r. ⌜ stateOf r ≡ through textEnd (endedState phase (stateOf state)) ⌝ }
+{
+    end_text(data_ended(phase, state))
+}
