@@ -1,0 +1,56 @@
+-- Packed tickets and heads, as the writer has them from `ticket`.
+use mathlib.Core.Path.{_≡_, refl, sym, ap, _∙_}
+use mathlib.Core.Bool.{Bool, true, false, not}
+use mathlib.Core.List.{List, _++_, append-nil}
+use Prim.Native.Nat.{ℕ}
+use native.Mathlib.Omega.{arith}
+use lib.ListN.{length, take, drop, replicate}
+use lib.Seq.{take-all}
+use Rattle.acorn_model.specs.Bits.{_if_else_}
+use Rattle.acorn_model.specs.Calls.{Reply, refused, done, accepted, unlessRefused, writtenOver}
+use Rattle.acorn_model.specs.Message.{Result, resultOf}
+use Rattle.tape_model.specs.declared.Ticket.{Ticket}
+use Rattle.tape_model.specs.declared.Head.{Head}
+use Rattle.tape_model.specs.Ticket.{ticketLength, ticketRule, packTicket, headLength, headRule, packHead, packHeadInto}
+use Rattle.tape_model.specs.Tape.{nonceOf, isRefused}
+use Rattle.tape_model.proofs.Tickets.{head-length}
+use Rattle.ticket.specs.Packing.{packedAlone}
+
+-- ## Tickets
+
+module _ (t : Ticket) (a : Reply ℕ) (string : List ℕ) (e : packedAlone t ≡ record { answer = a; out = string }) where
+  abbrev by-rule : Bool → Result ℕ
+  by-rule b = record { answer = done ticketLength; out = packTicket t } if b else record { answer = refused 4; out = replicate ticketLength 0 }
+
+  -- packing is done where the rule is met
+  pub ticket-met : ticketRule t ≡ not (isRefused a)
+  unfolding packedAlone
+  ticket-met = by (ticketRule t) ∙ ap (λ (r : Result ℕ). not (isRefused (r .answer))) e
+    where
+      by : (b : Bool) → b ≡ not (isRefused (by-rule b .answer))
+      by true = refl
+      by false = refl
+
+  pub ticket-packed : ticketRule t ≡ true → string ≡ packTicket t
+  unfolding packedAlone
+  ticket-packed met = sym (ap (λ (r : Result ℕ). r .out) e) ∙ ap (λ (b : Bool). by-rule b .out) met
+
+-- ## Heads
+
+-- into 9 bytes the packed head is written whole
+pub head-packed : (h : Head) (a : Reply ℕ) (string : List ℕ) → headRule h ≡ true → packHeadInto h (replicate headLength 0) ≡ record { answer = a; out = string }
+    → string ≡ packHead h
+unfolding packHeadInto resultOf unlessRefused writtenOver
+head-packed h a string met e =
+    sym (ap (λ (r : Result ℕ). r .out) (rw met at e)) ∙ rw (head-length h) (append-nil (packHead h))
+
+-- 9 bytes copied over 16 zeros are the nonce
+pub head-filled : (head nonce : List ℕ) → length head ≡ headLength → nonce ≡ take (length head) head ++ drop (length head) (replicate 16 0) → nonce ≡ nonceOf head
+head-filled head nonce long e =
+    e ∙ ap (λ (l : List ℕ). l ++ drop (length head) (replicate 16 0)) (take-all (length head) head (omega arith))
+    ∙ ap (λ (n : ℕ). head ++ drop n (replicate 16 0)) long
+
+-- a string copied over an output is written over it
+pub copied : (string packed out after : List ℕ) → string ≡ packed → after ≡ take (length string) string ++ drop (length string) out → after ≡ writtenOver packed out
+unfolding writtenOver
+copied string packed out after e f = f ∙ ap (λ (l : List ℕ). l ++ drop (length string) out) (take-all (length string) string (omega arith)) ∙ ap (λ (l : List ℕ). writtenOver l out) e

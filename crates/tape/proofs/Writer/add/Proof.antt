@@ -1,0 +1,123 @@
+-- `Writer::add` meets its contract.
+use mathlib.Core.Path.{_≡_, refl, sym, _∙_}
+use Prim.Native.Nat.{_+_}
+use native.Mathlib.Omega.{arith}
+use borrow.Author.Needs.{needs}
+use borrow.Author.Tests.{leb-false}
+use Rattle.tape_model.specs.declared.WriterPhase.the-variants.{Open}
+use Rattle.tape_model.specs.Ticket.{packTicket}
+use Rattle.tape_model.specs.Tape.{ticketLimit}
+use Rattle.tape_model.specs.Writer.{add, outputOf, phaseAllows, keyRight, headRight, ticketRight, tapeFull, outputShort, refusal, work}
+use Rattle.tape.specs.Contracts.{writerOf}
+use Rattle.tape.proofs.Packed.{ticket-met, ticket-packed}
+use Rattle.tape.proofs.WriterCalls.{Passes, passes, refuses, accepts, passed, text-stopped}
+use Rattle.tape.proofs.Writer.add.Statement.{statement}
+use Rattle.tape.proofs.Writer.add.Tie as tie
+use Rattle.tape.proofs.Writer.add.Reads as reads
+use Rattle.tape.proofs.Writer.add.Lts as lts
+use Rattle.session.proofs.Session.seal_text.Reads as seal-text-reads
+use Rattle.tape.proofs.refusal.is_done.Reads as is-done-reads
+use Rattle.tape.proofs.refusal.is_open.Reads as is-open-reads
+use Rattle.tape.proofs.refusal.number.Reads as number-reads
+use Rattle.ticket.proofs.packed.Reads as packed-reads
+
+number-is : (c : tie.After-number) → let a = c .before .before .before .before .before .args in c .number .result ≡ refusal (writerOf (a .self)) (add (a .ticket) (a .out .now))
+unfolding writerOf phaseAllows keyRight headRight ticketRight tapeFull outputShort
+number-is c =
+    let a = c .before .before .before .before .before .args in
+    c .number .ensures (writerOf (a .self)) (add (a .ticket) (a .out .now)) (sym (c .before .before .is-open .ensures)) refl refl
+    (ticket-met (a .ticket) _ _ (c .before .before .before .packed .ensures) ∙ sym (c .before .is-done .ensures)) refl refl
+
+accepted : (c : tie.Else1) → let a = c .before .before .before .before .before .before .args in Passes (writerOf (a .self)) (add (a .ticket) (a .out .now))
+accepted c =
+    let a = c .before .before .before .before .before .before .args in
+    passes (a .self) (add (a .ticket) (a .out .now)) (c .before .number .result) (number-is (c .before)) (c .if1 .left)
+
+bytes-are : (c : tie.Else1) → let p = c .before .before .before .before in p .packed .result .bytes ≡ packTicket (p .before .before .args .ticket)
+unfolding ticketRight
+bytes-are c =
+    let p = c .before .before .before .before in
+    ticket-packed (p .before .before .args .ticket) _ _ (p .packed .ensures) (accepted c .ticketed)
+
+packed-requires : tie.Need-packed-requires
+packed-requires c κs = search needs
+
+is-open-requires : tie.Need-is-open-requires
+is-open-requires c κs = search needs
+
+is-done-requires : tie.Need-is-done-requires
+is-done-requires c κs = search needs
+
+number-requires : tie.Need-number-requires
+number-requires c κs = search needs
+
+returns : tie.Need-returns
+unfolding outputOf
+returns c =
+    let a = c .before .before .before .before .before .before .args in
+    refuses (a .self) (add (a .ticket) (a .out .now)) (c .before .number .result) (number-is (c .before)) (c .if1 .taken) (omega arith)
+
+slice-aggregate-seal-text : tie.Need-slice-aggregate-seal-text
+slice-aggregate-seal-text c = search needs
+
+seal-text-requires : tie.Need-seal-text-requires
+seal-text-requires c κs = search needs
+
+enum-told : tie.Need-enum-told
+enum-told c = search needs
+
+enum-told-2 : tie.Need-enum-told-2
+enum-told-2 c = search needs
+
+same-length : tie.Need-same-length
+same-length c = search needs
+
+returns-2 : tie.Need-returns-2
+unfolding writerOf work
+returns-2 c =
+    let reply = c .before .before .before .before in
+    let accept = reply .before .before .before .before .before in
+    let n = accept .before in
+    let start = n .before .before .before .before .before in
+    let a = start .args in
+    text-stopped (a .self) (reply .seal-text .result) (a .out .now) _ Open (a .self .tickets + 1) _ (c .enum-told2 .given .1) (omega (arith, start))
+    (packTicket (a .ticket)) (rw (bytes-are accept) at (reply .seal-text .ensures))
+    ∙ accepts (a .self) (add (a .ticket) (a .out .now)) (n .number .result) (number-is n) (accept .if1 .left)
+
+add-t24 : tie.Need-add-t24
+unfolding writerOf tapeFull
+add-t24 c =
+    let accept = c .before .before .before .before .before .before .before .before .before .before in
+    omega (arith, leb-false ticketLimit (accept .before .before .before .before .before .before .args .self .tickets) (accepted accept .free))
+
+same-length-2 : tie.Need-same-length-2
+same-length-2 c = search needs
+
+returns-3 : tie.Need-returns-3
+unfolding writerOf work
+returns-3 c =
+    let reply = c .before .before .before .before .before in
+    let accept = reply .before .before .before .before .before in
+    let n = accept .before in
+    let a = n .before .before .before .before .before .args in
+    passed (reply .seal-text .result) _ _ (rw (bytes-are accept) at (reply .seal-text .ensures)) (a .self) Open (a .self .tickets + 1) (a .out .now) _ _ (c .before .enum-told .given .1)
+    ∙ accepts (a .self) (add (a .ticket) (a .out .now)) (n .number .result) (number-is n) (accept .if1 .left)
+
+pub add-spec : {M : Type 1} → statement M
+add-spec =
+    tie.close
+    (tie.spec
+    packed-requires
+    is-open-requires
+    is-done-requires
+    number-requires
+    returns
+    slice-aggregate-seal-text
+    seal-text-requires
+    enum-told
+    enum-told-2
+    same-length
+    returns-2
+    add-t24
+    same-length-2
+    returns-3)

@@ -1,0 +1,60 @@
+-- `begin_with_head` begins, and then takes the head as data.
+use mathlib.Core.Path.{_≡_, ap, subst}
+use mathlib.Core.List.{List, []}
+use Prim.Native.Nat.{ℕ}
+use borrow.Author.Needs.{needs}
+use Rattle.acorn_model.specs.Machine.{begin}
+use Rattle.session.specs.Contracts.{Called}
+use Rattle.tape.proofs.WriterCalls.{not-begun, then-fed}
+use Rattle.tape.proofs.begin_with_head.Statement.{statement}
+use Rattle.tape.proofs.begin_with_head.Tie as tie
+use Rattle.tape.proofs.begin_with_head.Reads as reads
+use Rattle.tape.proofs.begin_with_head.Lts as lts
+use Rattle.session.proofs.Session.begin.Reads as begin-reads
+use Rattle.session.proofs.Session.data.Reads as data-reads
+use Rattle.tape.proofs.nonce_of.Reads as nonce-of-reads
+
+nonce-of-requires : tie.Need-nonce-of-requires
+nonce-of-requires c κs = search needs
+
+slice-aggregate-begin : tie.Need-slice-aggregate-begin
+slice-aggregate-begin c = search needs
+
+begin-requires : tie.Need-begin-requires
+begin-requires c κs = search needs
+
+enum-told : tie.Need-enum-told
+enum-told c = search needs
+
+enum-told-2 : tie.Need-enum-told-2
+enum-told-2 c = search needs
+
+returns : tie.Need-returns
+returns c =
+    let b = c .before .before in
+    let a = b .before .before .before .before .before .args in
+    not-begun (a .session) (a .key .now) (a .head .now) (b .begin .result)
+    (rw (b .before .before .nonce-of .ensures) at (b .begin .ensures)) _ (c .enum-told2 .given .1)
+
+data-requires : tie.Need-data-requires
+data-requires c κs = search needs
+
+returns-2 : tie.Need-returns-2
+returns-2 c =
+    let b = c .before .before .before .before in
+    let a = b .before .before .before .before .before .args in
+    then-fed (a .session) (a .key .now) (a .head .now) (b .begin .result)
+    (rw (b .before .before .nonce-of .ensures) at (b .begin .ensures)) _ _ (c .before .before .enum-told .given .1) _ (c .«data» .ensures)
+
+pub begin-with-head-spec : {M : Type 1} → statement M
+begin-with-head-spec =
+    tie.close
+    (tie.spec
+    nonce-of-requires
+    slice-aggregate-begin
+    begin-requires
+    enum-told
+    enum-told-2
+    returns
+    data-requires
+    returns-2)

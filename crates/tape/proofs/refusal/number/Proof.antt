@@ -1,0 +1,43 @@
+-- `number` meets its contract: it is the plain writer's chain of tests.
+use Rattle.tape_model.specs.Writer.{refusal}
+use Rattle.tape.proofs.refusal.number.Statement.{statement}
+use Rattle.tape.proofs.refusal.number.Tie as tie
+
+returns : tie.Need-returns
+unfolding refusal
+returns c w k allowed keyed headed ticketed full short = rw (allowed, c .if1 .taken)
+
+returns-2 : tie.Need-returns-2
+unfolding refusal
+returns-2 c w k allowed keyed headed ticketed full short = rw (allowed, c .before .if1 .left, keyed, c .if2 .taken)
+
+returns-3 : tie.Need-returns-3
+unfolding refusal
+returns-3 c w k allowed keyed headed ticketed full short = rw (allowed, c .before .before .if1 .left, keyed, c .before .if2 .left, headed, c .if3 .taken)
+
+returns-4 : tie.Need-returns-4
+unfolding refusal
+returns-4 c w k allowed keyed headed ticketed full short =
+    rw (allowed, c .before .before .before .if1 .left, keyed, c .before .before .if2 .left, headed, c .before .if3 .left, ticketed, c .if4 .taken)
+
+returns-5 : tie.Need-returns-5
+unfolding refusal
+returns-5 c w k allowed keyed headed ticketed full short =
+    let b = c .before in
+    rw (allowed, b .before .before .before .if1 .left, keyed, b .before .before .if2 .left, headed, b .before .if3 .left, ticketed, b .if4 .left, full, c .if5 .taken)
+
+returns-6 : tie.Need-returns-6
+unfolding refusal
+returns-6 c w k allowed keyed headed ticketed full short =
+    let b = c .before .before in
+    rw (allowed, b .before .before .before .if1 .left, keyed, b .before .before .if2 .left, headed, b .before .if3 .left, ticketed, b .if4 .left, full, c .before .if5 .left, short, c .if6 .taken)
+
+returns-7 : tie.Need-returns-7
+unfolding refusal
+returns-7 c w k allowed keyed headed ticketed full short =
+    let b = c .before .before in
+    rw (allowed, b .before .before .before .if1 .left, keyed, b .before .before .if2 .left, headed, b .before .if3 .left, ticketed, b .if4 .left, full, c .before .if5 .left, short, c .if6 .left)
+
+pub number-spec : {M : Type 1} → statement M
+number-spec =
+    tie.close (tie.spec returns returns-2 returns-3 returns-4 returns-5 returns-6 returns-7)

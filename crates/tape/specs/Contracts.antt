@@ -1,0 +1,52 @@
+-- How a writer is held against document 01's plain writer: the one equation that every method's contract is.
+use mathlib.Core.Path.{_≡_}
+use mathlib.Core.Bool.{Bool}
+use mathlib.Core.List.{List}
+use Prim.Native.Nat.{ℕ}
+use Rattle.acorn_model.specs.Calls.{Reply, refused, done, Work, Outcome, answerReply}
+use Rattle.acorn_model.specs.Machine.{Machine, begin, dataCall, call}
+use Rattle.tape_model.specs.Tape.{nonceOf}
+use Rattle.tape_model.specs.Writer.{PlainWriter, WriterCall, phaseAllows, keyRight, headRight, ticketRight, tapeFull, outputShort, refusal, writerCall}
+use Rattle.session.specs.Contracts.{machineOf, wrappedMachine, wrappedReply}
+use Rattle.tape.specs.declared.Writer.{Writer}
+use Rattle.tape.specs.declared.WriterReply.{WriterReply}
+
+-- the plain writer that a writer stands for: every value of the struct stands for one
+unfoldable pub writerOf : Writer → PlainWriter
+writerOf w = record { machine = machineOf (w .session); phase = w .phase; tickets = w .tickets }
+
+-- what a call's reply, and its output after it, come to
+unfoldable pub outcomeOf : WriterReply → List ℕ → Outcome PlainWriter Work
+outcomeOf r out = record { next = writerOf (r .writer); answer = answerReply (r .answer); out = out }
+
+-- ## Counting in 64 bits: the session's count of steps goes round at 2 ^ 64
+
+unfoldable pub wrappedWriter : PlainWriter → PlainWriter
+wrappedWriter w = record { machine = wrappedMachine (w .machine); phase = w .phase; tickets = w .tickets }
+
+unfoldable pub wrappedWriterOutcome : Outcome PlainWriter Work → Outcome PlainWriter Work
+wrappedWriterOutcome o = record { next = wrappedWriter (o .next); answer = wrappedReply (o .answer); out = o .out }
+
+-- ## The contract of a call
+
+-- the call c of the writer w gave the reply r and left `out` in its output
+abbrev pub WriterCalled : Writer → WriterCall → WriterReply → List ℕ → Type 0
+WriterCalled w c r out = outcomeOf r out ≡ wrappedWriterOutcome (writerCall (writerOf w) c)
+
+-- ## What the private functions cite
+
+-- r is the refusal number of each call whose six tests come out so
+abbrev pub IsRefusal : Bool → Bool → Bool → Bool → Bool → Bool → ℕ → Type 0
+IsRefusal allowed keyed headed ticketed full short r =
+    (w : PlainWriter) (c : WriterCall) → phaseAllows (w .phase) c ≡ allowed → keyRight c ≡ keyed → headRight c ≡ headed → ticketRight c ≡ ticketed
+    → tapeFull (w .tickets) c ≡ full → outputShort c ≡ short → r ≡ refusal w c
+
+-- begin and then data with a head's bytes; begin alone where it is refused
+abbrev pub unlessBegun : Reply Work → Outcome Machine Work → Outcome Machine Work → Outcome Machine Work
+unlessBegun (refused n) begun fed = begun
+unlessBegun (done work) begun fed = fed
+
+unfoldable pub headTaken : Machine → List ℕ → List ℕ → Outcome Machine Work
+headTaken m key head =
+    let begun : Outcome Machine Work = call m (begin key (nonceOf head)) in
+    unlessBegun (begun .answer) begun (call (begun .next) (dataCall head))

@@ -1,0 +1,199 @@
+// Tapes: a writer seals a shift's tickets behind a head. Every call of the writer takes it and hands back the writer after it, with an answer:
+// a refusal number, or the bytes that the call wrote and the steps run since the writer was fresh. A refused call changes nothing.
+mod refusal;
+
+use acorn_model::Answer;
+use acorn_model::Kind;
+use refusal::is_done;
+use refusal::is_fresh;
+use refusal::is_open;
+use refusal::number;
+use session::Reply;
+use session::Session;
+use tape_model::Head;
+use tape_model::Ticket;
+use tape_model::WriterPhase;
+ghost use mathlib.Core.Path.{_≡_};
+ghost use mathlib.Core.Bool.{true};
+ghost use mathlib.Core.List.{[]};
+ghost use lib.ListN.{length};
+ghost use Rattle.tape_model.specs.Ticket.{headLength, headRule, packHead};
+ghost use Rattle.tape_model.specs.Tape.{nonceOf};
+ghost use Rattle.tape_model.specs.Writer as plain;
+ghost use Rattle.session.specs.Contracts.{machineOf, outcomeOf, wrappedOutcome};
+ghost use Rattle.tape.specs.Contracts.{writerOf, WriterCalled, headTaken};
+
+pub struct Writer {
+    session: Session,
+    tickets: u64,
+    phase: WriterPhase,
+}
+
+// What a call answered, and the writer after it.
+pub struct WriterReply {
+    pub answer: Answer,
+    pub writer: Writer,
+}
+
+// A packed head; zeros where it breaks the rule.
+fn head_bytes(head: Head) -> [u8; 9]
+    ensures { λ r. ⌜ (headRule head ≡ true → r ≡ packHead head) ⌝ }
+{
+    let mut packed = [0; 9];
+    ticket::pack_head(head, &mut packed);
+    packed
+}
+
+// The nonce of a head's bytes: they are filled up with zeros.
+fn nonce_of(head: &[u8]) -> [u8; 16]
+    requires { ⌜ length (now head) ≡ headLength ⌝ }
+    ensures { λ r. ⌜ r ≡ nonceOf (now (head .entry)) ⌝ }
+{
+    let mut nonce = [0; 16];
+    bytes::copy(head, &mut nonce);
+    nonce
+}
+
+// The session's begin, and then data with the head's bytes.
+fn begin_with_head(session: Session, key: &[u8], head: &[u8]) -> Reply
+    requires { ⌜ length (now head) ≡ headLength ⌝ }
+    ensures { λ r. ⌜ outcomeOf r [] ≡ wrappedOutcome (headTaken (machineOf session) (now (key .entry)) (now (head .entry))) ⌝ }
+{
+    let nonce = nonce_of(head);
+    let begun = session.begin(key, &nonce);
+    let answer = begun.answer;
+    let Answer::Done(_, _) = answer else {
+        return begun;
+    };
+    let after = begun.session;
+    after.data(head)
+}
+
+impl Writer {
+    pub fn fresh() -> Writer
+        ensures { λ r. ⌜ writerOf r ≡ plain.freshWriter ⌝ }
+    {
+        Writer {
+            session: Session::fresh(Kind::Sealing),
+            tickets: 0,
+            phase: WriterPhase::Fresh,
+        }
+    }
+
+    // Begins the tape with its head, which is the session's data.
+    pub fn start(self, key: &[u8], head: Head, out: &mut [u8]) -> WriterReply
+        ensures { λ r. ⌜ WriterCalled self (plain.start (now (key .entry)) head (now (out .entry))) r (now (out .exit)) ⌝ }
+    {
+        let phase = self.phase;
+        let headed = ticket::head_valid(head);
+        let number = number(
+            is_fresh(phase),
+            key.len() == 16,
+            headed,
+            true,
+            false,
+            out.len() < 9,
+        );
+        if number != 0 {
+            return WriterReply {
+                answer: Answer::Refused(number),
+                writer: self,
+            };
+        }
+        let packed = head_bytes(head);
+        let session = self.session;
+        let reply = begin_with_head(session, key, &packed);
+        let answer = reply.answer;
+        let Answer::Done(_, steps) = answer else {
+            return WriterReply {
+                answer,
+                writer: self,
+            };
+        };
+        bytes::copy(&packed, out);
+        let after = reply.session;
+        WriterReply {
+            answer: Answer::Done(9, steps),
+            writer: Writer {
+                session: after,
+                tickets: self.tickets,
+                phase: WriterPhase::Open,
+            },
+        }
+    }
+
+    // Adds a ticket to the tape.
+    pub fn add(self, ticket: Ticket, out: &mut [u8]) -> WriterReply
+        ensures { λ r. ⌜ WriterCalled self (plain.add ticket (now (out .entry))) r (now (out .exit)) ⌝ }
+    {
+        let phase = self.phase;
+        let tickets = self.tickets;
+        let packed = ticket::packed(ticket);
+        let packing = packed.answer;
+        let number = number(
+            is_open(phase),
+            true,
+            true,
+            is_done(packing),
+            5000 <= tickets,
+            out.len() < 13,
+        );
+        if number != 0 {
+            return WriterReply {
+                answer: Answer::Refused(number),
+                writer: self,
+            };
+        }
+        let session = self.session;
+        let bytes = packed.bytes;
+        let reply = session.seal_text(&bytes, out);
+        let answer = reply.answer;
+        let Answer::Done(_, _) = answer else {
+            return WriterReply {
+                answer,
+                writer: self,
+            };
+        };
+        let after = reply.session;
+        WriterReply {
+            answer,
+            writer: Writer {
+                session: after,
+                tickets: tickets + 1,
+                phase: WriterPhase::Open,
+            },
+        }
+    }
+
+    // Ends the tape with its tag.
+    pub fn finish(self, out: &mut [u8]) -> WriterReply
+        ensures { λ r. ⌜ WriterCalled self (plain.finish (now (out .entry))) r (now (out .exit)) ⌝ }
+    {
+        let phase = self.phase;
+        let number = number(is_open(phase), true, true, true, false, out.len() < 16);
+        if number != 0 {
+            return WriterReply {
+                answer: Answer::Refused(number),
+                writer: self,
+            };
+        }
+        let session = self.session;
+        let reply = session.seal_close(out);
+        let answer = reply.answer;
+        let Answer::Done(_, _) = answer else {
+            return WriterReply {
+                answer,
+                writer: self,
+            };
+        };
+        let after = reply.session;
+        WriterReply {
+            answer,
+            writer: Writer {
+                session: after,
+                tickets: self.tickets,
+                phase: WriterPhase::Closed,
+            },
+        }
+    }
+}

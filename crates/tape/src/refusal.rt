@@ -1,0 +1,71 @@
+// What sends a writer's call back: its tests, and the smallest number that applies.
+use acorn_model::Written;
+use tape_model::WriterPhase;
+ghost use mathlib.Core.Path.{_≡_};
+ghost use mathlib.Core.Bool.{not};
+ghost use Rattle.acorn_model.specs.Calls.{writtenReply};
+ghost use Rattle.tape_model.specs.Writer.{isFresh, isOpen};
+ghost use Rattle.tape_model.specs.Tape.{isRefused};
+ghost use Rattle.tape.specs.Contracts.{IsRefusal};
+
+pub(crate) fn is_fresh(phase: WriterPhase) -> bool
+    ensures { λ r. ⌜ r ≡ isFresh phase ⌝ }
+{
+    match phase {
+        WriterPhase::Fresh => true,
+        WriterPhase::Open => false,
+        WriterPhase::Closed => false,
+    }
+}
+
+pub(crate) fn is_open(phase: WriterPhase) -> bool
+    ensures { λ r. ⌜ r ≡ isOpen phase ⌝ }
+{
+    match phase {
+        WriterPhase::Fresh => false,
+        WriterPhase::Open => true,
+        WriterPhase::Closed => false,
+    }
+}
+
+// Whether packing was done, and not refused.
+pub(crate) fn is_done(answer: Written) -> bool
+    ensures { λ r. ⌜ r ≡ not (isRefused (writtenReply answer)) ⌝ }
+{
+    match answer {
+        Written::Refused(_) => false,
+        Written::Done(_) => true,
+    }
+}
+
+// The smallest number that applies, by the six tests; 0 where none does.
+pub(crate) fn number(
+    allowed: bool,
+    keyed: bool,
+    headed: bool,
+    ticketed: bool,
+    full: bool,
+    short: bool,
+) -> u8
+    ensures { λ r. ⌜ IsRefusal allowed keyed headed ticketed full short r ⌝ }
+{
+    if !allowed {
+        return 1;
+    }
+    if !keyed {
+        return 2;
+    }
+    if !headed {
+        return 3;
+    }
+    if !ticketed {
+        return 4;
+    }
+    if full {
+        return 5;
+    }
+    if short {
+        return 6;
+    }
+    0
+}
