@@ -10,4 +10,5 @@ pub mod Ran
 pub mod WriterReached
 pub mod WriterAccepts
 pub mod WriterKept
+pub mod WriterValid
 pub mod WriterLists

@@ -1,7 +1,8 @@
 -- The statements of specs/WriterLists.antt, proved from what a list leads to.
-use mathlib.Core.Path.{_≡_, sym, ap, ap₂, _∙_}
+use mathlib.Core.Path.{_≡_, sym, ap, ap₂, _∙_, subst}
 use mathlib.Core.List.{List, [], _++_}
 use Prim.Native.Nat.{ℕ}
+use native.Mathlib.Omega.{arith}
 use Rattle.acorn_model.specs.declared.Kind.the-variants.{Sealing}
 use Rattle.acorn_model.specs.declared.Phase.{Phase}
 use Rattle.acorn_model.specs.declared.Phase.the-variants.{Closed as MachineClosed}
@@ -14,14 +15,16 @@ use Rattle.tape_model.specs.declared.WriterPhase.{WriterPhase}
 use Rattle.tape_model.specs.declared.WriterPhase.the-variants.{Fresh, Open, Closed}
 use Rattle.tape_model.specs.Ticket.{packHead}
 use Rattle.tape_model.specs.Tape.{nonceOf, tapeOf}
-use Rattle.tape_model.specs.Writer.{PlainWriter, WriterCall, start, refusal, outputOf, work, writerCall}
+use Rattle.tape_model.specs.Writer.{PlainWriter, freshWriter, WriterCall, start, refusal, outputOf, work, writerCall}
 use Rattle.call_lists.specs.MachineLists.{logFrom}
 use Rattle.tape_model.specs.WriterLists.{Started, WriterLog, headsOf}
 use Rattle.call_lists.specs.WriterLists.{writerAfter, writerLogFrom, WriterLists}
+use Rattle.tape_model.proofs.Tapes.{tapes-come-back}
 use Rattle.call_lists.proofs.Refusals.{by-number, writer-passed}
 use Rattle.call_lists.proofs.MachineLists.{machine-lists}
 use Rattle.call_lists.proofs.WriterReached.{Begun, WriterMeans, WriterReached, writer-in-phase}
 use Rattle.call_lists.proofs.WriterAccepts.{machine-passed, accepted-work}
+use Rattle.call_lists.proofs.WriterValid.{StartsRight, tickets-valid, starts-right}
 use Rattle.call_lists.proofs.WriterKept.{writer-reached}
 
 -- a list with no accepted start is that of a fresh writer
@@ -66,6 +69,12 @@ writer-lists = record {
   tape = λ calls c.
       let r = writer-reached calls in
       let m = writer-in-phase (writerAfter calls) (writerLogFrom calls) Closed c r in
-      (m .1 .started, m .1 .starts, tape-written (writerAfter calls) (writerLogFrom calls) r (m .1) (m .0));
+      let right = subst StartsRight (m .1 .starts) (starts-right freshWriter calls) in (
+        m .1 .started,
+        m .1 .starts,
+        tape-written (writerAfter calls) (writerLogFrom calls) r (m .1) (m .0),
+        tapes-come-back (m .1 .started .key) (m .1 .started .head) (writerLogFrom calls .tickets) (right .0) (right .1) (tickets-valid freshWriter calls)
+            (omega (arith, r .tickets, r .fits)),
+      );
   start-answers = λ calls key out head a. start-answers (writerAfter calls) (writerLogFrom calls) (writer-reached calls) key out head a;
 }

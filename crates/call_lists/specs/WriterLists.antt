@@ -12,6 +12,7 @@ use Rattle.tape_model.specs.declared.WriterPhase.the-variants.{Closed}
 use Rattle.tape_model.specs.Tape.{tapeOf}
 use Rattle.tape_model.specs.Writer.{PlainWriter, freshWriter, WriterCall, start, writerCall}
 use Rattle.tape_model.specs.WriterLists.{Started, WriterLog, writerLog, headsOf}
+use Rattle.tape_model.specs.Laws.{TapeLaws}
 
 module _ (calls : List WriterCall) where
   abbrev pub writerAfter : PlainWriter
@@ -36,9 +37,10 @@ pub record WriterLists : Type 0 where
   pub none : (calls : List WriterCall) → writerLogFrom calls .starts ≡ [] → writerLogFrom calls .written ≡ []
   -- it has counted the tickets added
   pub tickets : (calls : List WriterCall) → writerAfter calls .tickets ≡ length (writerLogFrom calls .tickets)
-  -- a finished writer was started once, and has written the tape of that key and head and the tickets added
+  -- a finished writer was started once, and has written the tape of that key and head and the tickets added, which come back from it
   pub tape : (calls : List WriterCall) → writerAfter calls .phase ≡ Closed
       → (s : Started) × (writerLogFrom calls .starts ≡ (s ∷ [])) × (writerLogFrom calls .written ≡ tapeOf (s .key) (s .head) (writerLogFrom calls .tickets))
+      × TapeLaws (s .key) (s .head) (writerLogFrom calls .tickets)
   -- an accepted start answers 9 bytes and 1,864 steps
   pub start-answers : (calls : List WriterCall) (key out : List ℕ) (head : Head) (w : Work)
       → writerCall (writerAfter calls) (start key head out) .answer ≡ done w → w ≡ record { bytes = 9; steps = 1864 }

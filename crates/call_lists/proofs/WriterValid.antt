@@ -1,0 +1,59 @@
+-- What a writer accepts is as the rules say: its keys, heads and tickets.
+use mathlib.Core.Path.{_≡_, refl, ap, _∙_}
+use mathlib.Core.Bool.{Bool, true}
+use mathlib.Core.List.{List, [], _∷_, _++_}
+use Prim.Native.Nat.{ℕ}
+use native.Mathlib.Omega.{arith}
+use lib.ListN.{length}
+use borrow.Author.Tests.{eqb-true}
+use Rattle.acorn_model.specs.Calls.{Reply, refused, done, Work, Outcome, refusedWith, entries}
+use Rattle.acorn_model.specs.Machine.{keyLength}
+use Rattle.acorn_model.specs.Lists.{ifAccepted}
+use Rattle.tape_model.specs.declared.Ticket.{Ticket}
+use Rattle.tape_model.specs.Ticket.{headRule}
+use Rattle.tape_model.specs.Writer.{PlainWriter, WriterCall, start, add, finish, outputOf, keyRight, headRight, ticketRight, refusal, work, writerCall}
+use Rattle.tape_model.specs.WriterLists.{Started, startOf, ticketsOf, writerLog}
+use Rattle.tape_model.specs.Laws.{Valid}
+use Rattle.call_lists.proofs.Refusals.{by-number, WriterPassed, writer-passed}
+
+-- a key of 16 bytes, and a head in its ranges
+abbrev pub StartsRight : List Started → Type 0
+StartsRight [] = Unit {0}
+StartsRight (s ∷ ss) = (length (s .key) ≡ keyLength) × (headRule (s .head) ≡ true) × StartsRight ss
+
+-- an accepted call passed every test
+accepted-passed : (w : PlainWriter) (c : WriterCall) (a : Work) → writerCall w c .answer ≡ done a → WriterPassed w c
+unfolding writerCall refusedWith
+accepted-passed w c a =
+    by-number (λ (o : Outcome PlainWriter Work). o .answer ≡ done a → WriterPassed w c) (refusal w c) (work w c) (refusedWith (refusal w c) w (outputOf c))
+    (λ n h. writer-passed w c n) (λ n h. let z : _≡_ {A = ℕ} 0 1 = cc in absurd (omega arith))
+
+ticket-right : (c : WriterCall) (ts : List Ticket) → ticketRight c ≡ true → Valid ts → Valid (ticketsOf c ++ ts)
+unfolding ticketRight ticketsOf
+ticket-right (start key head out) ts h v = v
+ticket-right (add ticket out) ts h v = (h, v)
+ticket-right (finish out) ts h v = v
+
+start-right : (c : WriterCall) (ss : List Started) → keyRight c ≡ true → headRight c ≡ true → StartsRight ss → StartsRight (startOf c ++ ss)
+unfolding keyRight headRight startOf
+start-right (start key head out) ss k h v = (eqb-true (length key) keyLength k, h, v)
+start-right (add ticket out) ss k h v = v
+start-right (finish out) ss k h v = v
+
+pub tickets-valid : (w : PlainWriter) (calls : List WriterCall) → Valid (writerLog (entries writerCall w calls) .tickets)
+unfolding entries writerLog
+tickets-valid w [] = tt
+tickets-valid w (c ∷ cs) = by-answer (writerCall w c .answer) (λ a e. accepted-passed w c a e .ticket) _ (tickets-valid (writerCall w c .next) cs)
+  where
+    by-answer : (r : Reply Work) → ((a : Work) → r ≡ done a → ticketRight c ≡ true) → (ts : List Ticket) → Valid ts → Valid (ifAccepted r (ticketsOf c) ++ ts)
+    by-answer (refused n) p ts v = v
+    by-answer (done a) p ts v = ticket-right c ts (p a refl) v
+
+pub starts-right : (w : PlainWriter) (calls : List WriterCall) → StartsRight (writerLog (entries writerCall w calls) .starts)
+unfolding entries writerLog
+starts-right w [] = tt
+starts-right w (c ∷ cs) = by-answer (writerCall w c .answer) (λ a e. accepted-passed w c a e) _ (starts-right (writerCall w c .next) cs)
+  where
+    by-answer : (r : Reply Work) → ((a : Work) → r ≡ done a → WriterPassed w c) → (ss : List Started) → StartsRight ss → StartsRight (ifAccepted r (startOf c) ++ ss)
+    by-answer (refused n) p ss v = v
+    by-answer (done a) p ss v = start-right c ss (p a refl .key) (p a refl .head) v

@@ -1,0 +1,57 @@
+-- Every list of calls can be made, on sessions and on writers: the contracts leave no call without a reply.
+use mathlib.Core.Path.{_≡_, refl, ap}
+use mathlib.Core.List.{List, [], _∷_}
+use Prim.Native.Nat.{ℕ}
+use Rattle.acorn_model.specs.Calls.{Reply, Work, Outcome, answerReply, Entry, callsOf}
+use Rattle.acorn_model.specs.Machine.{Machine, fresh, call as machineCall}
+use Rattle.tape_model.specs.Writer.{PlainWriter, freshWriter, writerCall}
+use Rattle.session.specs.declared.Reply.{Reply as SessionReply}
+use Rattle.session.specs.Contracts.{machineOf, outcomeOf, wrappedMachine, wrappedOutcome, Called}
+use Rattle.tape.specs.declared.WriterReply.{WriterReply}
+use Rattle.tape.specs.Contracts.{writerOf, wrappedWriter, wrappedWriterOutcome, WriterCalled}
+use Rattle.tape.specs.Contracts as tape
+use Rattle.demands.specs.Played.{Played, none, call}
+use Rattle.demands.specs.Examples.{SessionReplies, WriterReplies, SessionsExist, WritersExist}
+use Rattle.demands.proofs.Standing.{session-clear, call-clear, sessionOf, stands, answerOf, answers, writer-call-clear, writerFor, writer-stands}
+
+module _ {S C R : Type 0} (next : R → S) (reply : R → Reply Work) (Called : S → C → R → List ℕ → Type 0)
+    (replies : (s : S) (c : C) → (r : R) × (out : List ℕ) × Called s c r out) where
+  played : (s : S) (cs : List C) → (es : List (Entry C)) × (e : S) × Played next reply Called s es e × (callsOf es ≡ cs)
+  unfolding callsOf
+  played s [] = ([], s, none, refl)
+  played s (c ∷ cs) =
+      let k = replies s c in
+      let p = played (next (k .0)) cs in
+      (record { call = c; answer = reply (k .0); out = k .1 } ∷ p .0, p .1, call (k .0) (k .2) (p .2), ap (_∷_ c) (p .3))
+
+-- ## Sessions
+
+pub session-replies : SessionReplies
+unfolding outcomeOf wrappedOutcome wrappedMachine
+session-replies s c =
+    let o : Outcome Machine Work = wrappedOutcome (machineCall (machineOf s) c) in
+    let next = stands (o .next) (call-clear (machineOf s) c (session-clear s)) in
+    let answer = answers (o .answer) in
+    (record { answer = answerOf (o .answer); session = sessionOf (o .next) }, o .out, λ i. record { next = next i; answer = answer i; out = o .out })
+
+pub sessions-exist : SessionsExist
+unfolding fresh
+sessions-exist kind cs =
+    let p = played (λ (r : SessionReply). r .session) (λ (r : SessionReply). answerReply (r .answer)) Called session-replies (sessionOf (fresh kind)) cs in
+    (p .0, p .1, record { first = sessionOf (fresh kind); isFresh = stands (fresh kind) (λ q. refl); played = p .2 }, p .3)
+
+-- ## Writers
+
+pub writer-replies : WriterReplies
+unfolding tape.outcomeOf writerOf wrappedWriterOutcome wrappedWriter wrappedMachine
+writer-replies w c =
+    let o : Outcome PlainWriter Work = wrappedWriterOutcome (writerCall (writerOf w) c) in
+    let next = writer-stands (o .next) (writer-call-clear (writerOf w) c (session-clear (w .session))) in
+    let answer = answers (o .answer) in
+    (record { answer = answerOf (o .answer); writer = writerFor (o .next) }, o .out, λ i. record { next = next i; answer = answer i; out = o .out })
+
+pub writers-exist : WritersExist
+unfolding freshWriter fresh
+writers-exist cs =
+    let p = played (λ (r : WriterReply). r .writer) (λ (r : WriterReply). answerReply (r .answer)) WriterCalled writer-replies (writerFor freshWriter) cs in
+    (p .0, p .1, record { first = writerFor freshWriter; isFresh = writer-stands freshWriter (λ q. refl); played = p .2 }, p .3)

@@ -1,0 +1,13 @@
+pub mod AsModel
+pub mod Sessions
+pub mod Writers
+pub mod Refusals
+pub mod Messages
+pub mod Tied
+pub mod Standing
+pub mod Exist
+pub mod AllPass
+pub mod SessionExamples
+pub mod WriterExamples
+pub mod MessageExamples
+pub mod Examples

@@ -1,0 +1,41 @@
+-- Demand 2 on whole messages, from the contracts and the laws of the definitions.
+use mathlib.Core.Path.{_≡_, refl, sym, ap, ap₂, _∙_}
+use mathlib.Core.List.{List, _++_}
+use mathlib.Core.Logic.{_↔_}
+use Prim.Native.Nat.{ℕ, _+_, _≤_}
+use lib.ListN.{length}
+use Rattle.acorn_model.specs.declared.Written.{Written}
+use Rattle.acorn_model.specs.Bits.{Bits, AreBytes, bitsIn, bytes}
+use Rattle.acorn_model.specs.Stretches.{tagLength}
+use Rattle.acorn_model.specs.Paper.{ciphertext, tag}
+use Rattle.acorn_model.specs.Calls.{Reply, done, refused, writtenReply, writtenOver}
+use Rattle.acorn_model.specs.Message.{Result, sealed, sealMessage, openMessage}
+use Rattle.acorn_model.specs.Laws.{ByPaper, WithinLimits}
+use Rattle.acorn_model.proofs.Proved.{paper-computed, message-laws}
+use Rattle.demands.specs.Messages.{Seals, OpensTo, MessageDemand}
+
+module _ (key nonce «data» : List ℕ) where
+  -- the paper's ciphertext and tag are the sealed bytes
+  by-paper : (text : List ℕ) (c T : Bits) → ByPaper key nonce «data» (length text) (bitsIn text) c T → bytes (length text) c ++ bytes tagLength T ≡ sealed key nonce «data» text
+  unfolding sealed
+  by-paper text c T p = let e = paper-computed key nonce «data» .sealing-only text c T p in ap₂ _++_ (e .0) (e .1)
+
+  pub message-demand : MessageDemand key nonce «data»
+  message-demand =
+      record {
+        sealing = λ text out after r h w room c T p.
+            let e = sym h ∙ message-laws key nonce «data» .seals text out w room in
+            (λ i. e i .answer, (λ i. e i .out) ∙ ap (λ (l : List ℕ). writtenOver l out) (sym (by-paper text c T p)));
+        sealable = λ text. (bitsIn (ciphertext key nonce «data» text), bitsIn (tag key nonce «data» text), paper-computed key nonce «data» .sealing text);
+        opening = λ s text out after r hs ht w room h c T p.
+            let e = message-laws key nonce «data» .opens-exactly s text out hs ht in (
+              λ (a : (writtenReply r ≡ done (length text)) × (after ≡ writtenOver text out)).
+                  e .0 (h ∙ (λ i. record { answer = a .0 i; out = a .1 i })) .2 ∙ sym (by-paper text c T p),
+              λ (b : s ≡ bytes (length text) c ++ bytes tagLength T).
+                  let g = sym h ∙ e .1 (w, room, b ∙ by-paper text c T p) in (λ i. g i .answer, λ i. g i .out),
+            );
+        sevens-alike = λ key′ nonce′ data′ s s′ out after after′ r r′ h h′ e e′. (
+          (λ i. sym h i .out) ∙ message-laws key nonce «data» .open-refused 7 s out ((λ i. h i .answer) ∙ e),
+          (λ i. sym h′ i .out) ∙ message-laws key′ nonce′ data′ .open-refused 7 s′ out ((λ i. h′ i .answer) ∙ e′),
+        );
+      }

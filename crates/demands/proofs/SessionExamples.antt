@@ -1,0 +1,201 @@
+-- The sessions' lists of specs/Examples.antt: what comes of them is computed as far as phases, counts, sizes and answers go, and no step of the cipher is run.
+use mathlib.Core.Path.{_≡_, refl, sym, ap, _∙_, subst₂}
+use mathlib.Core.Bool.{Bool, true, false, true≢false}
+use mathlib.Core.List.{List, [], _∷_, _++_, append-assoc}
+use Prim.Native.Nat.{ℕ, zero, suc, _+_, _≤_, _<_}
+use native.Mathlib.Omega.{arith}
+use lib.Dec.{ltb}
+use lib.ListN.{length, length-append, getD, replicate}
+use borrow.Author.Tests.{le-ltb, eq-eqb}
+use Rattle.acorn_model.specs.declared.Kind.{Kind}
+use Rattle.acorn_model.specs.declared.Kind.the-variants.{Sealing, Checking}
+use Rattle.acorn_model.specs.Bits.{AreBytes}
+use Rattle.acorn_model.specs.Stretches.{tagLength, tagOf}
+use Rattle.acorn_model.specs.Paper.{newTag}
+use Rattle.acorn_model.specs.Calls.{Reply, refused, done, Work, sameBytes, Entry, entries, handedOn, unlessRefused, refusedWith}
+use Rattle.acorn_model.specs.Machine.{Machine, Call, begin, dataCall, checkText, checkClose, fresh, call, byteLimit, keyAndNonceRight}
+use Rattle.acorn_model.specs.Machine.{phaseAllows, sizesRight, overLimit, outputShort, refusal}
+use Rattle.acorn_model.specs.Machine.{runThrough, enter, cleared, countData, countText, begun, dataTaken, dataEnded, textTaken, textEnded, closed, answered, wrote, verdict, work}
+use Rattle.acorn_model.specs.Laws.{WithinLimits}
+use Rattle.acorn_model.specs.Lists.{Ended, beginOf, dataOf, textOf, tagsOf, verdictOf, logged, joinLogs, nothing, logOf}
+use Rattle.acorn_model.proofs.SameBytes.{same-bytes-refl, same-bytes-true}
+use Rattle.acorn_model.proofs.Outputs.{newTag-length}
+use Rattle.acorn_model.proofs.Proved.{stretches-agree}
+use Rattle.call_lists.proofs.Refusals.{Passed, works}
+use Rattle.demands.specs.Examples.{SomeSession, Finish, Answers, EndAlike, sealingCalls, checkingCalls, refusedCalls, cutCalls, SessionExamples}
+use Rattle.demands.proofs.Sessions.{session-demand}
+use Rattle.demands.proofs.Exist.{sessions-exist}
+use Rattle.demands.proofs.AllPass.{AllPass, all-same}
+
+abbrev Passing : Kind → List Call → Type 0
+Passing kind cs = AllPass call work (λ m. Unit {0}) Passed (λ m c _ p. works m c p) (λ m c _. tt) (fresh kind) cs
+
+module _ (kind : Kind) (cs : List Call) (P : List (Entry Call) → Machine → Type 0) where
+  -- what holds of the machine's list holds of a session's
+  on-session : P (entries call (fresh kind) cs) (handedOn call (fresh kind) cs) → SomeSession kind cs P
+  on-session h =
+      let x = sessions-exist kind cs in
+      let e = session-demand .as-machine kind (x .0) (x .1) (x .2) in (
+        x .0,
+        x .1,
+        x .2,
+        x .3,
+        subst₂ P (sym (e .0 ∙ ap (entries call (fresh kind)) (x .3))) (sym (e .1 ∙ ap (handedOn call (fresh kind)) (x .3))) h,
+      )
+
+  -- where every call passes, the machine's list is what the work comes to
+  on-working : Passing kind cs → P (entries work (fresh kind) cs) (handedOn work (fresh kind) cs) → SomeSession kind cs P
+  on-working p h =
+      let e = all-same call work (λ m. Unit {0}) Passed (λ m c _ q. works m c q) (λ m c _. tt) (fresh kind) cs tt p in
+      on-session (subst₂ P (sym (e .0)) (sym (e .1)) h)
+
+right-sizes : (key nonce «data» text : List ℕ) → WithinLimits key nonce «data» text → keyAndNonceRight key nonce ≡ true
+right-sizes key nonce «data» text l = rw (l .key-size, l .nonce-size)
+
+below : (n : ℕ) → n ≤ byteLimit → ltb byteLimit (0 + n) ≡ false
+below n h = le-ltb byteLimit (0 + n) (omega arith)
+
+module _ (key nonce «data» text : List ℕ) (l : WithinLimits key nonce «data» text) where
+  sealing-passes : (out tagOut : List ℕ) → length text ≤ length out → tagLength ≤ length tagOut → Passing Sealing (sealingCalls key nonce «data» text out tagOut)
+  unfolding fresh work wrote begun dataTaken dataEnded textTaken enter runThrough cleared countData countText phaseAllows sizesRight overLimit outputShort
+  sealing-passes out tagOut h k = (
+    record { phase = refl; sizes = right-sizes key nonce «data» text l; limit = refl; output = refl },
+    (
+      record { phase = refl; sizes = refl; limit = below (length «data») (l .data-limit); output = refl },
+      (
+        record { phase = refl; sizes = refl; limit = below (length text) (l .text-limit); output = le-ltb (length out) (length text) h },
+        (
+          record { phase = refl; sizes = refl; limit = refl; output = le-ltb (length tagOut) tagLength k },
+          tt,
+        ),
+      ),
+    ),
+  )
+
+  sealing : (out tagOut : List ℕ) → length text ≤ length out → tagLength ≤ length tagOut → SomeSession Sealing (sealingCalls key nonce «data» text out tagOut) Finish
+  unfolding entries handedOn work wrote answered closed enter
+  sealing out tagOut h k = on-working Sealing (sealingCalls key nonce «data» text out tagOut) Finish (sealing-passes out tagOut h k) (((_, refl), ((_, refl), ((_, refl), ((_, refl), tt)))), refl)
+
+  checking-passes : (tag : List ℕ) → length tag ≡ tagLength → Passing Checking (checkingCalls key nonce «data» text tag)
+  unfolding fresh work wrote begun dataTaken dataEnded textTaken enter runThrough cleared countData countText phaseAllows sizesRight overLimit outputShort
+  checking-passes tag k = (
+    record { phase = refl; sizes = right-sizes key nonce «data» text l; limit = refl; output = refl },
+    (
+      record { phase = refl; sizes = refl; limit = below (length «data») (l .data-limit); output = refl },
+      (
+        record { phase = refl; sizes = refl; limit = below (length text) (l .text-limit); output = refl },
+        (
+          record { phase = refl; sizes = eq-eqb (length tag) tagLength k; limit = refl; output = refl },
+          tt,
+        ),
+      ),
+    ),
+  )
+
+  -- the machine before its close, whose tag is the paper's
+  abbrev before : Machine
+  before = handedOn work (fresh Checking) (begin key nonce ∷ dataCall «data» ∷ checkText text ∷ [])
+
+  own-tag : tagOf (textEnded before .state) ≡ newTag key nonce «data» text
+  unfolding handedOn fresh work wrote begun dataTaken dataEnded textTaken textEnded enter runThrough cleared countData countText
+  own-tag = stretches-agree key nonce «data» .opening text .1
+
+  -- what the close answers, by whether the tag is the right one
+  judged : (tag : List ℕ) (b : Bool) → sameBytes tag (newTag key nonce «data» text) ≡ b → work before (checkClose tag) .answer ≡ verdict b (closed before)
+  unfolding work
+  judged tag b e = ap (λ (c : Bool). verdict c (closed before)) (ap (sameBytes tag) own-tag ∙ e)
+
+  good : SomeSession Checking (checkingCalls key nonce «data» text (newTag key nonce «data» text)) Finish
+  unfolding entries handedOn work wrote answered verdict closed enter
+  good =
+      let T = newTag key nonce «data» text in
+      on-working Checking (checkingCalls key nonce «data» text T) Finish (checking-passes T (newTag-length key nonce «data» text))
+      (((_, refl), ((_, refl), ((_, refl), ((_, judged T true (same-bytes-refl T)), tt)))), refl)
+
+  seven : (tag : List ℕ) → length tag ≡ tagLength → (tag ≡ newTag key nonce «data» text → ⊥)
+      → SomeSession Checking (checkingCalls key nonce «data» text tag) (λ es m. (logOf es .verdicts ≡ (refused 7 ∷ [])) × Ended m)
+  unfolding entries handedOn work wrote answered verdict closed enter logOf logged joinLogs nothing verdictOf
+  seven tag k n =
+      let e : work before (checkClose tag) .answer ≡ refused 7 = judged tag false (differ (sameBytes tag (newTag key nonce «data» text)) refl) in
+      on-working Checking (checkingCalls key nonce «data» text tag) (λ es m. (logOf es .verdicts ≡ (refused 7 ∷ [])) × Ended m) (checking-passes tag k)
+      (ap (λ (a : Reply Work). verdictOf (checkClose tag) a ++ []) e, refl)
+    where
+      differ : (b : Bool) → sameBytes tag (newTag key nonce «data» text) ≡ b → sameBytes tag (newTag key nonce «data» text) ≡ false
+      differ true e = absurd (n (same-bytes-true tag (newTag key nonce «data» text) e))
+      differ false e = e
+
+-- ## Refusals, and two cuts
+
+abbrev theirAnswers : List (Reply Work)
+theirAnswers = refused 1 ∷ refused 2 ∷ done (record { bytes = 0; steps = 1792 }) ∷ refused 5 ∷ refused 6 ∷ []
+
+refusals : SomeSession Sealing refusedCalls (Answers theirAnswers)
+unfolding entries fresh call refusal unlessRefused refusedWith phaseAllows sizesRight overLimit outputShort work wrote answered begun enter runThrough cleared
+refusals = on-session Sealing refusedCalls (Answers theirAnswers) refl
+
+module _ (key nonce «data» first second out firstOut secondOut tagOut : List ℕ) (l : WithinLimits key nonce «data» (first ++ second))
+    (room : length (first ++ second) ≤ length out) (room₁ : length first ≤ length firstOut) (room₂ : length second ≤ length secondOut) (roomTag : tagLength ≤ length tagOut) where
+  abbrev inOne : List Call
+  inOne = sealingCalls key nonce «data» (first ++ second) out tagOut
+
+  abbrev inTwo : List Call
+  inTwo = cutCalls key nonce «data» first second firstOut secondOut tagOut
+
+  cut-passes : Passing Sealing inTwo
+  unfolding fresh work wrote begun dataTaken dataEnded textTaken enter runThrough cleared countData countText phaseAllows sizesRight overLimit outputShort
+  cut-passes = (
+    record { phase = refl; sizes = right-sizes key nonce «data» (first ++ second) l; limit = refl; output = refl },
+    (
+      record { phase = refl; sizes = refl; limit = below (length «data») (l .data-limit); output = refl },
+      (
+        record { phase = refl; sizes = refl; limit = below (length first) (omega (arith, l .text-limit, length-append first second)); output = le-ltb (length firstOut) (length first) room₁ },
+        (
+          record {
+            phase = refl;
+            sizes = refl;
+            limit = le-ltb byteLimit (0 + length first + length second) (omega (arith, l .text-limit, length-append first second));
+            output = le-ltb (length secondOut) (length second) room₂;
+          },
+          (
+            record { phase = refl; sizes = refl; limit = refl; output = le-ltb (length tagOut) tagLength roomTag },
+            tt,
+          ),
+        ),
+      ),
+    ),
+  )
+
+  cuts : SomeSession Sealing inOne (λ es m. Ended m × SomeSession Sealing inTwo (EndAlike es))
+  unfolding entries handedOn work wrote answered closed enter logOf logged joinLogs nothing beginOf dataOf textOf tagsOf verdictOf
+  cuts =
+      on-working Sealing inOne (λ es m. Ended m × SomeSession Sealing inTwo (EndAlike es)) (sealing-passes key nonce «data» (first ++ second) l out tagOut room roomTag) (
+        refl,
+        on-working Sealing inTwo (EndAlike (entries work (fresh Sealing) inOne)) cut-passes
+            (refl, record { begins = refl; «data» = refl; text = append-assoc first second []; tags = tt }),
+      )
+
+-- ## Sizes and tags that there are
+
+all-bytes : (n x : ℕ) → x < 256 → AreBytes (replicate n x)
+all-bytes zero x h p = omega arith
+all-bytes (suc n) x h zero = h
+all-bytes (suc n) x h (suc p) = all-bytes n x h p
+
+-- one of two tags is another than T
+another : (T : List ℕ) → (tag : List ℕ) × AreBytes tag × (length tag ≡ tagLength) × (tag ≡ T → ⊥)
+another T = by (sameBytes (replicate 16 0) T) refl
+  where
+    by : (b : Bool) → sameBytes (replicate 16 0) T ≡ b → (tag : List ℕ) × AreBytes tag × (length tag ≡ tagLength) × (tag ≡ T → ⊥)
+    by true e = (replicate 16 1, all-bytes 16 1 (omega arith), refl, λ (f : replicate 16 1 ≡ T). let z : _≡_ {A = ℕ} 1 0 = ap (λ (l : List ℕ). getD l 0 0) (f ∙ sym (same-bytes-true (replicate 16 0) T e)) in omega arith)
+    by false e = (replicate 16 0, all-bytes 16 0 (omega arith), refl, λ f. true≢false (sym (same-bytes-refl T) ∙ ap (λ (l : List ℕ). sameBytes l T) (sym f) ∙ e))
+
+pub session-examples : SessionExamples
+session-examples = record {
+  sealing = λ key nonce «data» text out tagOut l. sealing key nonce «data» text l out tagOut;
+  good = good;
+  seven = λ key nonce «data» cipher tag l. seven key nonce «data» cipher l tag;
+  refusals = refusals;
+  cuts = cuts;
+  sizes = record { key-size = refl; nonce-size = refl; data-limit = omega arith; text-limit = omega arith };
+  another = another;
+}

@@ -1,0 +1,112 @@
+-- What a caller learns of each function, as the toolchain reads the contract in the source, is what the demands speak of, and a caller is asked
+-- nothing: the session's and the writer's methods give `Called` and `WriterCalled` at their calls, so that `Played` is made of the contracts and of
+-- nothing else; whole messages and tapes are sealed and opened as the definitions say.
+use mathlib.Core.Path.{_≡_}
+use mathlib.Core.List.{[]}
+use contract.Lifetimes
+use borrow.Fn.World
+use borrow.Fn.Kinds as Kinds'
+use denote.Triple.Clauses
+use denote.Ref.{now}
+use Rattle.acorn_model.specs.Machine as machine
+use Rattle.session.specs.Contracts.{machineOf, Called}
+use Rattle.demands.specs.Messages.{Seals, OpensTo}
+use Rattle.message.proofs.seal as seal'
+use Rattle.message.proofs.seal.Kinds as seal-kinds
+use Rattle.message.proofs.seal.Reads as seal-reads
+use Rattle.message.proofs.open as open'
+use Rattle.message.proofs.open.Kinds as open-kinds
+use Rattle.message.proofs.open.Reads as open-reads
+use Rattle.session.proofs.Session.fresh as fresh'
+use Rattle.session.proofs.Session.fresh.Kinds as fresh-kinds
+use Rattle.session.proofs.Session.fresh.Reads as fresh-reads
+use Rattle.session.proofs.Session.begin as begin'
+use Rattle.session.proofs.Session.begin.Kinds as begin-kinds
+use Rattle.session.proofs.Session.begin.Reads as begin-reads
+use Rattle.session.proofs.Session.data as data'
+use Rattle.session.proofs.Session.data.Kinds as data-kinds
+use Rattle.session.proofs.Session.data.Reads as data-reads
+use Rattle.session.proofs.Session.seal_text as seal-text'
+use Rattle.session.proofs.Session.seal_text.Kinds as seal-text-kinds
+use Rattle.session.proofs.Session.seal_text.Reads as seal-text-reads
+use Rattle.session.proofs.Session.check_text as check-text'
+use Rattle.session.proofs.Session.check_text.Kinds as check-text-kinds
+use Rattle.session.proofs.Session.check_text.Reads as check-text-reads
+use Rattle.session.proofs.Session.seal_close as seal-close'
+use Rattle.session.proofs.Session.seal_close.Kinds as seal-close-kinds
+use Rattle.session.proofs.Session.seal_close.Reads as seal-close-reads
+use Rattle.session.proofs.Session.check_close as check-close'
+use Rattle.session.proofs.Session.check_close.Kinds as check-close-kinds
+use Rattle.session.proofs.Session.check_close.Reads as check-close-reads
+
+module _ (κs : Lifetimes.Lfts 0) (a : World.ArgsD fresh'.signature κs) where
+  fresh-asks : fresh-reads.Asked κs a
+  fresh-asks = tt
+
+  fresh-says : (r : World.ResD fresh'.signature κs) (x : Clauses.AtExit (Kinds'.endedOf 0 fresh-kinds.ps fresh-kinds.r) κs) → fresh-reads.Learnt κs a r x
+      → machineOf r ≡ machine.fresh (a .0)
+  fresh-says r x h = h
+
+module _ (κs : Lifetimes.Lfts 2) (a : World.ArgsD begin'.signature κs) where
+  begin-asks : begin-reads.Asked κs a
+  begin-asks = tt
+
+  begin-says : (r : World.ResD begin'.signature κs) (x : Clauses.AtExit (Kinds'.endedOf 2 begin-kinds.ps begin-kinds.r) κs) → begin-reads.Learnt κs a r x
+      → Called (a .0) (machine.begin (now (a .1 .0)) (now (a .1 .1 .0))) r []
+  begin-says r x h = h
+
+module _ (κs : Lifetimes.Lfts 1) (a : World.ArgsD data'.signature κs) where
+  data-asks : data-reads.Asked κs a
+  data-asks = tt
+
+  data-says : (r : World.ResD data'.signature κs) (x : Clauses.AtExit (Kinds'.endedOf 1 data-kinds.ps data-kinds.r) κs) → data-reads.Learnt κs a r x
+      → Called (a .0) (machine.dataCall (now (a .1 .0))) r []
+  data-says r x h = h
+
+module _ (κs : Lifetimes.Lfts 2) (a : World.ArgsD seal-text'.signature κs) where
+  seal-text-asks : seal-text-reads.Asked κs a
+  seal-text-asks = tt
+
+  seal-text-says : (r : World.ResD seal-text'.signature κs) (x : Clauses.AtExit (Kinds'.endedOf 2 seal-text-kinds.ps seal-text-kinds.r) κs) → seal-text-reads.Learnt κs a r x
+      → Called (a .0) (machine.sealText (now (a .1 .0)) (now (a .1 .1 .0))) r (now (x .1 .1 .0))
+  seal-text-says r x h = h
+
+module _ (κs : Lifetimes.Lfts 1) (a : World.ArgsD check-text'.signature κs) where
+  check-text-asks : check-text-reads.Asked κs a
+  check-text-asks = tt
+
+  check-text-says : (r : World.ResD check-text'.signature κs) (x : Clauses.AtExit (Kinds'.endedOf 1 check-text-kinds.ps check-text-kinds.r) κs) → check-text-reads.Learnt κs a r x
+      → Called (a .0) (machine.checkText (now (a .1 .0))) r []
+  check-text-says r x h = h
+
+module _ (κs : Lifetimes.Lfts 1) (a : World.ArgsD seal-close'.signature κs) where
+  seal-close-asks : seal-close-reads.Asked κs a
+  seal-close-asks = tt
+
+  seal-close-says : (r : World.ResD seal-close'.signature κs) (x : Clauses.AtExit (Kinds'.endedOf 1 seal-close-kinds.ps seal-close-kinds.r) κs) → seal-close-reads.Learnt κs a r x
+      → Called (a .0) (machine.sealClose (now (a .1 .0))) r (now (x .1 .0))
+  seal-close-says r x h = h
+
+module _ (κs : Lifetimes.Lfts 1) (a : World.ArgsD check-close'.signature κs) where
+  check-close-asks : check-close-reads.Asked κs a
+  check-close-asks = tt
+
+  check-close-says : (r : World.ResD check-close'.signature κs) (x : Clauses.AtExit (Kinds'.endedOf 1 check-close-kinds.ps check-close-kinds.r) κs) → check-close-reads.Learnt κs a r x
+      → Called (a .0) (machine.checkClose (now (a .1 .0))) r []
+  check-close-says r x h = h
+
+module _ (κs : Lifetimes.Lfts 5) (a : World.ArgsD seal'.signature κs) where
+  seal-asks : seal-reads.Asked κs a
+  seal-asks = tt
+
+  seal-says : (r : World.ResD seal'.signature κs) (x : Clauses.AtExit (Kinds'.endedOf 5 seal-kinds.ps seal-kinds.r) κs) → seal-reads.Learnt κs a r x
+      → Seals (now (a .0)) (now (a .1 .0)) (now (a .1 .1 .0)) (now (a .1 .1 .1 .0)) (now (a .1 .1 .1 .1 .0)) r (now (x .1 .1 .1 .1 .0))
+  seal-says r x h = h
+
+module _ (κs : Lifetimes.Lfts 5) (a : World.ArgsD open'.signature κs) where
+  open-asks : open-reads.Asked κs a
+  open-asks = tt
+
+  open-says : (r : World.ResD open'.signature κs) (x : Clauses.AtExit (Kinds'.endedOf 5 open-kinds.ps open-kinds.r) κs) → open-reads.Learnt κs a r x
+      → OpensTo (now (a .0)) (now (a .1 .0)) (now (a .1 .1 .0)) (now (a .1 .1 .1 .0)) (now (a .1 .1 .1 .1 .0)) r (now (x .1 .1 .1 .1 .0))
+  open-says r x h = h

@@ -1,0 +1,168 @@
+-- That the demands speak of something: every call and every list of calls can be made, on sessions and on writers; and there are lists that end,
+-- and calls that are refused.
+use mathlib.Core.Path.{_≡_}
+use mathlib.Core.List.{List, [], _∷_, _++_, map}
+use Prim.Native.Nat.{ℕ, _≤_}
+use lib.ListN.{length, replicate}
+use Rattle.acorn_model.specs.declared.Kind.{Kind}
+use Rattle.acorn_model.specs.declared.Kind.the-variants.{Sealing, Checking}
+use Rattle.acorn_model.specs.declared.Written.{Written}
+use Rattle.acorn_model.specs.Bits.{AreBytes}
+use Rattle.acorn_model.specs.Stretches.{tagLength}
+use Rattle.acorn_model.specs.Paper.{newTag}
+use Rattle.acorn_model.specs.Calls.{Reply, refused, done, Work, writtenReply, Entry, callsOf}
+use Rattle.acorn_model.specs.Machine.{Machine, Call, begin, dataCall, sealText, checkText, sealClose, checkClose, keyLength}
+use Rattle.acorn_model.specs.Laws.{WithinLimits}
+use Rattle.acorn_model.specs.Lists.{logOf, Ended, Alike}
+use Rattle.tape_model.specs.declared.Ticket.{Ticket}
+use Rattle.tape_model.specs.declared.Head.{Head}
+use Rattle.tape_model.specs.declared.WriterPhase.the-variants.{Closed}
+use Rattle.tape_model.specs.Ticket.{ticketLength, headLength, packHead}
+use Rattle.tape_model.specs.Tape.{nonceOf, openTape}
+use Rattle.tape_model.specs.Writer.{PlainWriter, WriterCall, start, add, finish}
+use Rattle.tape_model.specs.Cases.{ticketWith}
+use Rattle.session.specs.declared.Session.{Session}
+use Rattle.session.specs.declared.Reply.{Reply as SessionReply}
+use Rattle.session.specs.Contracts.{machineOf, Called}
+use Rattle.tape.specs.declared.Writer.{Writer}
+use Rattle.tape.specs.declared.WriterReply.{WriterReply}
+use Rattle.tape.specs.Contracts.{writerOf, WriterCalled}
+use Rattle.demands.specs.Sessions.{SessionList}
+use Rattle.demands.specs.Writers.{WriterList}
+use Rattle.demands.specs.Messages.{Seals, OpensTo}
+
+-- ## Every call, and every list of calls
+
+-- no session and no writer is without a reply to a call
+abbrev pub SessionReplies : Type 0
+SessionReplies = (s : Session) (c : Call) → (r : SessionReply) × (out : List ℕ) × Called s c r out
+
+abbrev pub WriterReplies : Type 0
+WriterReplies = (w : Writer) (c : WriterCall) → (r : WriterReply) × (out : List ℕ) × WriterCalled w c r out
+
+abbrev pub SessionsExist : Type 0
+SessionsExist = (kind : Kind) (cs : List Call) → (es : List (Entry Call)) × (e : Session) × SessionList kind es e × (callsOf es ≡ cs)
+
+abbrev pub WritersExist : Type 0
+WritersExist = (cs : List WriterCall) → (es : List (Entry WriterCall)) × (e : Writer) × WriterList es e × (callsOf es ≡ cs)
+
+-- ## Lists of sessions
+
+-- these calls can be made, and P holds of what comes of them: the entries, and the machine that the last session stands for
+abbrev pub SomeSession : Kind → List Call → (List (Entry Call) → Machine → Type 0) → Type 0
+SomeSession kind cs P = (es : List (Entry Call)) × (e : Session) × SessionList kind es e × (callsOf es ≡ cs) × P es (machineOf e)
+
+-- every call of a list is accepted
+abbrev pub AllAccepted : {C : Type 0} → List (Entry C) → Type 0
+AllAccepted [] = Unit {0}
+AllAccepted (e ∷ es) = ((w : Work) × (e .answer ≡ done w)) × AllAccepted es
+
+-- and the last ends their session
+abbrev pub Finish : List (Entry Call) → Machine → Type 0
+Finish es m = AllAccepted es × Ended m
+
+-- the answers are these
+abbrev pub Answers : {C M : Type 0} → List (Reply Work) → List (Entry C) → M → Type 0
+Answers answers es m = map (λ e. e .answer) es ≡ answers
+
+-- the session ends, and its list is alike to another sealing session's
+abbrev pub EndAlike : List (Entry Call) → List (Entry Call) → Machine → Type 0
+EndAlike es es′ m′ = Ended m′ × Alike Sealing (logOf es) (logOf es′)
+
+abbrev pub sealingCalls : (key nonce «data» text out tagOut : List ℕ) → List Call
+sealingCalls key nonce «data» text out tagOut = begin key nonce ∷ dataCall «data» ∷ sealText text out ∷ sealClose tagOut ∷ []
+
+abbrev pub checkingCalls : (key nonce «data» cipher tag : List ℕ) → List Call
+checkingCalls key nonce «data» cipher tag = begin key nonce ∷ dataCall «data» ∷ checkText cipher ∷ checkClose tag ∷ []
+
+abbrev pub refusedCalls : List Call
+refusedCalls = dataCall [] ∷ begin [] [] ∷ begin (replicate 16 0) (replicate 16 0) ∷ dataCall (replicate 65537 0) ∷ sealClose [] ∷ []
+
+abbrev pub cutCalls : (key nonce «data» first second firstOut secondOut tagOut : List ℕ) → List Call
+cutCalls key nonce «data» first second firstOut secondOut tagOut =
+    begin key nonce ∷ dataCall «data» ∷ sealText first firstOut ∷ sealText second secondOut ∷ sealClose tagOut ∷ []
+
+pub record SessionExamples : Type 0 where
+  -- begin, data, text and close of a sealing session, with room for what they write, are accepted and end it
+  pub sealing : (key nonce «data» text out tagOut : List ℕ) → WithinLimits key nonce «data» text → length text ≤ length out → tagLength ≤ length tagOut
+      → SomeSession Sealing (sealingCalls key nonce «data» text out tagOut) Finish
+  -- those of a checking session that is given the right tag too: it says good
+  pub good : (key nonce «data» cipher : List ℕ) → WithinLimits key nonce «data» cipher
+      → SomeSession Checking (checkingCalls key nonce «data» cipher (newTag key nonce «data» cipher)) Finish
+  -- and given any other of 16 bytes it says 7 and has ended
+  pub seven : (key nonce «data» cipher tag : List ℕ) → WithinLimits key nonce «data» cipher → length tag ≡ tagLength
+      → (tag ≡ newTag key nonce «data» cipher → ⊥)
+      → SomeSession Checking (checkingCalls key nonce «data» cipher tag) (λ es m. (logOf es .verdicts ≡ (refused 7 ∷ [])) × Ended m)
+  -- a list that is sent back with 1, 2, 5 and 6
+  pub refusals : SomeSession Sealing refusedCalls (Answers (refused 1 ∷ refused 2 ∷ done (record { bytes = 0; steps = 1792 }) ∷ refused 5 ∷ refused 6 ∷ []))
+  -- a text in one piece and in two: both lists end, and they are alike
+  pub cuts : (key nonce «data» first second out firstOut secondOut tagOut : List ℕ) → WithinLimits key nonce «data» (first ++ second)
+      → length (first ++ second) ≤ length out → length first ≤ length firstOut → length second ≤ length secondOut → tagLength ≤ length tagOut
+      → SomeSession Sealing (sealingCalls key nonce «data» (first ++ second) out tagOut)
+      (λ es m. Ended m × SomeSession Sealing (cutCalls key nonce «data» first second firstOut secondOut tagOut) (EndAlike es))
+  -- there are strings within the limits, and for every tag there is another
+  pub sizes : WithinLimits (replicate 16 0) (replicate 16 0) [] (0 ∷ [])
+  pub another : (T : List ℕ) → (tag : List ℕ) × AreBytes tag × (length tag ≡ tagLength) × (tag ≡ T → ⊥)
+
+-- ## Lists of writers
+
+abbrev pub SomeWriter : List WriterCall → (List (Entry WriterCall) → PlainWriter → Type 0) → Type 0
+SomeWriter cs P = (es : List (Entry WriterCall)) × (e : Writer) × WriterList es e × (callsOf es ≡ cs) × P es (writerOf e)
+
+-- the head of case (i), and the ticket of case (h)
+abbrev pub someHead : Head
+someHead = record { device = 7; shift = 2; sheet = 1 }
+
+abbrev pub someTicket : Ticket
+someTicket = ticketWith 3600 4200 250000 110000
+
+abbrev pub writerCalls : (key out ticketOut tagOut : List ℕ) → List WriterCall
+writerCalls key out ticketOut tagOut = start key someHead out ∷ add someTicket ticketOut ∷ finish tagOut ∷ []
+
+abbrev pub refusedWriterCalls : List WriterCall
+refusedWriterCalls =
+    finish []
+    ∷ start [] someHead []
+    ∷ start (replicate 16 0) (record { device = 0; shift = 2; sheet = 1 }) []
+    ∷ start (replicate 16 0) someHead []
+    ∷ start (replicate 16 0) someHead (replicate 9 0)
+    ∷ add (ticketWith 3600 4200 250000 250000) []
+    ∷ []
+
+pub record WriterExamples : Type 0 where
+  -- start, add and finish, with room for what they write, are accepted and close the writer
+  pub tape : (key out ticketOut tagOut : List ℕ) → length key ≡ keyLength
+      → headLength ≤ length out → ticketLength ≤ length ticketOut → tagLength ≤ length tagOut
+      → SomeWriter (writerCalls key out ticketOut tagOut) (λ es w. AllAccepted es × (w .phase ≡ Closed))
+  -- a list that is sent back with 1, 2, 3, 6 and 4
+  pub refusals : SomeWriter refusedWriterCalls
+      (Answers (refused 1 ∷ refused 2 ∷ refused 3 ∷ refused 6 ∷ done (record { bytes = 9; steps = 1864 }) ∷ refused 4 ∷ []))
+
+-- ## Whole messages
+
+pub record MessageExamples (key nonce «data» : List ℕ) : Type 0 where
+  pub seals : (text out : List ℕ) → (r : Written) × (after : List ℕ) × Seals key nonce «data» text out r after
+  pub opens : (sealedBytes out : List ℕ) → (r : Written) × (after : List ℕ) × OpensTo key nonce «data» sealedBytes out r after
+  -- within the limits, 16 bytes that are not the tag of an empty text are answered with 7
+  pub seven : (tag out : List ℕ) → WithinLimits key nonce «data» [] → length tag ≡ tagLength → (tag ≡ newTag key nonce «data» [] → ⊥)
+      → (r : Written) × (after : List ℕ) × OpensTo key nonce «data» tag out r after × (writtenReply r ≡ refused 7)
+
+-- ## Tapes
+
+-- 16 bytes behind a head that are not the tag of a tape of no tickets are answered with 7
+abbrev pub TapeSeven : Type 0
+TapeSeven =
+    (key tag out : List ℕ) → length key ≡ keyLength → length tag ≡ tagLength
+    → (tag ≡ newTag key (nonceOf (packHead someHead)) (packHead someHead) [] → ⊥) → openTape key (packHead someHead ++ tag) out .answer ≡ refused 7
+
+-- ## All of it
+
+pub record Examples : Type 0 where
+  pub session-replies : SessionReplies
+  pub writer-replies : WriterReplies
+  pub sessions : SessionsExist
+  pub writers : WritersExist
+  pub of-sessions : SessionExamples
+  pub of-writers : WriterExamples
+  pub of-messages : (key nonce «data» : List ℕ) → MessageExamples key nonce «data»
+  pub of-tapes : TapeSeven

@@ -1,0 +1,6 @@
+pub mod Played
+pub mod Sessions
+pub mod Writers
+pub mod Refusals
+pub mod Messages
+pub mod Examples

@@ -1,0 +1,38 @@
+-- Demand 2 on whole messages: what `message::seal` and `message::open` give, by their contracts.
+use mathlib.Core.Path.{_≡_}
+use mathlib.Core.List.{List, _++_}
+use mathlib.Core.Logic.{_↔_}
+use Prim.Native.Nat.{ℕ, _+_, _≤_}
+use lib.ListN.{length}
+use Rattle.acorn_model.specs.declared.Written.{Written}
+use Rattle.acorn_model.specs.Bits.{Bits, AreBytes, bitsIn, bytes}
+use Rattle.acorn_model.specs.Stretches.{tagLength}
+use Rattle.acorn_model.specs.Calls.{done, refused, writtenReply, writtenOver}
+use Rattle.acorn_model.specs.Message.{sealMessage, openMessage}
+use Rattle.acorn_model.specs.Laws.{ByPaper, WithinLimits}
+
+-- the contracts: the call answered r, and left `after` in the output that was `out`
+abbrev pub Seals : List ℕ → List ℕ → List ℕ → List ℕ → List ℕ → Written → List ℕ → Type 0
+Seals key nonce «data» text out r after = sealMessage key nonce «data» text out ≡ record { answer = writtenReply r; out = after }
+
+abbrev pub OpensTo : List ℕ → List ℕ → List ℕ → List ℕ → List ℕ → Written → List ℕ → Type 0
+OpensTo key nonce «data» sealedBytes out r after = openMessage key nonce «data» sealedBytes out ≡ record { answer = writtenReply r; out = after }
+
+module _ (key nonce «data» : List ℕ) where
+  pub record MessageDemand : Type 0 where
+    -- within the limits, with an output long enough, what is written is ciphertext and then tag, by the paper's relation and by nothing else
+    pub sealing : (text out after : List ℕ) (r : Written) → Seals key nonce «data» text out r after
+        → WithinLimits key nonce «data» text → length text + tagLength ≤ length out
+        → (c T : Bits) → ByPaper key nonce «data» (length text) (bitsIn text) c T
+        → (writtenReply r ≡ done (length text + tagLength)) × (after ≡ writtenOver (bytes (length text) c ++ bytes tagLength T) out)
+    -- and there is such a ciphertext and tag
+    pub sealable : (text : List ℕ) → (c T : Bits) × ByPaper key nonce «data» (length text) (bitsIn text) c T
+    -- a text is given exactly when the sealed bytes are the paper's ciphertext and tag of it
+    pub opening : (sealedBytes text out after : List ℕ) (r : Written) → AreBytes sealedBytes → AreBytes text
+        → WithinLimits key nonce «data» text → length text ≤ length out → OpensTo key nonce «data» sealedBytes out r after
+        → (c T : Bits) → ByPaper key nonce «data» (length text) (bitsIn text) c T
+        → ((writtenReply r ≡ done (length text)) × (after ≡ writtenOver text out)) ↔ (sealedBytes ≡ bytes (length text) c ++ bytes tagLength T)
+    -- where the tag does not match nothing is written, and two such openings cannot be told apart
+    pub sevens-alike : (key′ nonce′ data′ sealedBytes sealedBytes′ out after after′ : List ℕ) (r r′ : Written)
+        → OpensTo key nonce «data» sealedBytes out r after → OpensTo key′ nonce′ data′ sealedBytes′ out r′ after′
+        → writtenReply r ≡ refused 7 → writtenReply r′ ≡ refused 7 → (after ≡ out) × (after′ ≡ out)

@@ -1,0 +1,39 @@
+-- Demand 3 on the tape writer: every list of start, add and finish calls from a fresh writer, refused ones among them.
+use mathlib.Core.Path.{_≡_}
+use mathlib.Core.List.{List, [], _∷_, _++_}
+use Prim.Native.Nat.{ℕ}
+use lib.ListN.{length}
+use Rattle.acorn_model.specs.declared.Kind.the-variants.{Sealing}
+use Rattle.acorn_model.specs.Calls.{Reply, done, Work, answerReply, Entry, callsOf, entries, handedOn}
+use Rattle.acorn_model.specs.Machine.{fresh, call}
+use Rattle.acorn_model.specs.Lists.{logOf}
+use Rattle.tape_model.specs.declared.WriterPhase.the-variants.{Closed}
+use Rattle.tape_model.specs.Tape.{tapeOf}
+use Rattle.tape_model.specs.Writer.{WriterCall, freshWriter, writerCall}
+use Rattle.tape_model.specs.WriterLists.{Started, writerLog, headsOf}
+use Rattle.tape_model.specs.Laws.{TapeLaws}
+use Rattle.tape.specs.declared.Writer.{Writer}
+use Rattle.tape.specs.declared.WriterReply.{WriterReply}
+use Rattle.tape.specs.Contracts.{writerOf, WriterCalled}
+use Rattle.demands.specs.Played.{Played}
+
+-- a list of calls from a fresh writer, which led to the writer e
+pub record WriterList (es : List (Entry WriterCall)) (e : Writer) : Type 0 where
+  pub first : Writer
+  pub isFresh : writerOf first ≡ freshWriter
+  pub played : Played {R = WriterReply} (λ r. r .writer) (λ r. answerReply (r .answer)) WriterCalled first es e
+
+pub record WriterDemand : Type 0 where
+  -- the writer answers and counts as the plain writer does: over the whole list the answers and outputs are the plain writer's, and at its end
+  -- phase, tickets added, steps and (before closed) the 293 bits are
+  pub as-plain : (es : List (Entry WriterCall)) (e : Writer) → WriterList es e
+      → (es ≡ entries writerCall freshWriter (callsOf es)) × (writerOf e ≡ handedOn writerCall freshWriter (callsOf es))
+  -- the bytes written are the accepted head's nine, then the one-step machine's for that key and head, the accepted tickets and accepted finish
+  pub written : (es : List (Entry WriterCall)) (e : Writer) → WriterList es e
+      → writerLog es .written ≡ headsOf (writerLog es .starts) ++ logOf (entries call (fresh Sealing) (writerLog es .machineCalls)) .written
+  -- with no accepted start there are none
+  pub none : (es : List (Entry WriterCall)) (e : Writer) → WriterList es e → writerLog es .starts ≡ [] → writerLog es .written ≡ []
+  -- a finished writer was started once; it has written the tape of that key, that head and the tickets added, and these come back from it
+  pub tape : (es : List (Entry WriterCall)) (e : Writer) → WriterList es e → writerOf e .phase ≡ Closed
+      → (s : Started) × (writerLog es .starts ≡ (s ∷ [])) × (writerLog es .written ≡ tapeOf (s .key) (s .head) (writerLog es .tickets))
+      × TapeLaws (s .key) (s .head) (writerLog es .tickets)
