@@ -1,12 +1,11 @@
 -- Whole sealing and opening: where no number applies, what a refused call leaves, and when a text is written.
 use mathlib.Core.Path.{_≡_, refl, sym, ap, ap₂, _∙_}
-use mathlib.Core.Bool.{Bool, true, false, not, _||_}
-use mathlib.Core.List.{List, _++_}
+use mathlib.Core.Bool.{Bool, true, false, not}
+use mathlib.Core.List.{List}
 use mathlib.Core.Logic.{_↔_}
 use Prim.Native.Nat.{ℕ, zero, suc, _+_, _-_, _≤_}
 use native.Mathlib.Omega.{arith}
-use lib.Dec.{ltb}
-use lib.ListN.{length, take, drop}
+use lib.ListN.{length, take}
 use lib.Seq.{take-at, length-take-le}
 use borrow.Author.Tests.{eq-eqb, eqb-true, le-ltb, ltb-false, not-false}
 use Rattle.acorn_model.specs.Bits.{AreBytes, _if_else_}
@@ -21,7 +20,7 @@ use Rattle.acorn_model.proofs.Whole.{opened-exactly}
 
 -- ## Numbers
 
--- the number is none of the chain's first three: their tests failed
+-- a number that is none of the chain's first three: their tests failed
 passed : (a b c : Bool) (n m : ℕ) → (m ≡ 2 → ⊥) → (m ≡ 5 → ⊥) → (m ≡ 6 → ⊥) → (2 if a else 5 if b else 6 if c else n) ≡ m
     → (a ≡ false) × (b ≡ false) × (c ≡ false) × (n ≡ m)
 passed true b c n m h2 h5 h6 e = absurd (h2 (sym e))

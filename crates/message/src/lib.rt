@@ -64,6 +64,8 @@ fn after_data(key: &[u8], nonce: &[u8], data: &[u8]) -> State
     end_data(absorb_data(start(key, nonce), data))
 }
 
+// Writes the ciphertext of the text, and then the tag. 2: key or nonce not of 16 bytes; 5: data or text over 65,536 bytes; 6: an output
+// without room for the text and 16 bytes more.
 pub fn seal(key: &[u8], nonce: &[u8], data: &[u8], text: &[u8], out: &mut [u8]) -> Written
     ensures { λ r. ⌜ sealMessage (now (key .entry)) (now (nonce .entry)) (now («data» .entry)) (now (text .entry)) (now (out .entry)) ≡ record { answer = writtenReply r; out = now (out .exit) } ⌝ }
 {
@@ -74,7 +76,8 @@ pub fn seal(key: &[u8], nonce: &[u8], data: &[u8], text: &[u8], out: &mut [u8]) 
     let n = text.len();
     let s = seal_text(after_data(key, nonce, data), text, out);
     write_tag(end_text(s), &mut out[n..]);
-    Written::Done(n + 16)
+    let written = n + 16;
+    Written::Done(written)
 }
 
 // Whether a tag is the one given. All 16 bytes are compared, wherever the first differs.
@@ -125,7 +128,8 @@ fn zeros_65536() -> [u8; 65536] {
     [0; 65536]
 }
 
-// The scratch is no longer than the message makes needful, since it is cleared first.
+// Writes the text that ciphertext and tag open to. 2: key or nonce not of 16 bytes, or fewer sealed bytes than 16; 5: data or text over 65,536
+// bytes; 6: an output without room for the text; 7: a tag that differs. The scratch is cleared first, so a short message gets a short one.
 pub fn open(key: &[u8], nonce: &[u8], data: &[u8], sealed: &[u8], out: &mut [u8]) -> Written
     ensures { λ r. ⌜ openMessage (now (key .entry)) (now (nonce .entry)) (now («data» .entry)) (now (sealed .entry)) (now (out .entry)) ≡ record { answer = writtenReply r; out = now (out .exit) } ⌝ }
 {

@@ -160,42 +160,14 @@ fn seal_refusals(string: &[u8]) {
     let over = first(string, 65537);
     let text = first(string, 5);
     let mut out = [0u8; 21];
-    let mut out_short = [0u8; 20];
-    print_seal(b"seal, key of 15 bytes:", short, key, text, text, &mut out);
-    print_seal(b"seal, key of 17 bytes:", long, key, text, text, &mut out);
-    print_seal(
-        b"seal, nonce of 15 bytes:",
-        key,
-        short,
-        text,
-        text,
-        &mut out,
-    );
-    print_seal(b"seal, nonce of 17 bytes:", key, long, text, text, &mut out);
-    print_seal(
-        b"seal, data of 65537 bytes:",
-        key,
-        key,
-        over,
-        text,
-        &mut out,
-    );
-    print_seal(
-        b"seal, text of 65537 bytes:",
-        key,
-        key,
-        text,
-        over,
-        &mut out,
-    );
-    print_seal(
-        b"seal, output of 20 bytes for 21:",
-        key,
-        key,
-        text,
-        text,
-        &mut out_short,
-    );
+    let mut less = [0u8; 20];
+    print_seal(b"seal, key of 15:", short, key, text, text, &mut out);
+    print_seal(b"seal, key of 17:", long, key, text, text, &mut out);
+    print_seal(b"seal, nonce of 15:", key, short, text, text, &mut out);
+    print_seal(b"seal, nonce of 17:", key, long, text, text, &mut out);
+    print_seal(b"seal, data of 65537:", key, key, over, text, &mut out);
+    print_seal(b"seal, text of 65537:", key, key, text, over, &mut out);
+    print_seal(b"seal, output 20 of 21:", key, key, text, text, &mut less);
 }
 
 // The sealed bytes are those of a text of 5 bytes, with itself as data.
@@ -206,57 +178,15 @@ fn open_size_refusals(string: &[u8], sealed: &[u8]) {
     let over = first(string, 65537);
     let data = first(string, 5);
     let mut out = [0u8; 5];
-    let mut out_short = [0u8; 4];
-    print_open(
-        b"open, key of 15 bytes:",
-        short,
-        key,
-        data,
-        sealed,
-        &mut out,
-    );
-    print_open(b"open, key of 17 bytes:", long, key, data, sealed, &mut out);
-    print_open(
-        b"open, nonce of 15 bytes:",
-        key,
-        short,
-        data,
-        sealed,
-        &mut out,
-    );
-    print_open(
-        b"open, nonce of 17 bytes:",
-        key,
-        long,
-        data,
-        sealed,
-        &mut out,
-    );
-    print_open(b"open, 15 sealed bytes:", key, key, data, short, &mut out);
-    print_open(
-        b"open, data of 65537 bytes:",
-        key,
-        key,
-        over,
-        sealed,
-        &mut out,
-    );
-    print_open(
-        b"open, 65553 sealed bytes:",
-        key,
-        key,
-        data,
-        string,
-        &mut out,
-    );
-    print_open(
-        b"open, output of 4 bytes for 5:",
-        key,
-        key,
-        data,
-        sealed,
-        &mut out_short,
-    );
+    let mut less = [0u8; 4];
+    print_open(b"open, key of 15:", short, key, data, sealed, &mut out);
+    print_open(b"open, key of 17:", long, key, data, sealed, &mut out);
+    print_open(b"open, nonce of 15:", key, short, data, sealed, &mut out);
+    print_open(b"open, nonce of 17:", key, long, data, sealed, &mut out);
+    print_open(b"open, 15 sealed:", key, key, data, short, &mut out);
+    print_open(b"open, data of 65537:", key, key, over, sealed, &mut out);
+    print_open(b"open, 65553 sealed:", key, key, data, string, &mut out);
+    print_open(b"open, output 4 of 5:", key, key, data, sealed, &mut less);
 }
 
 fn open_refusals(string: &[u8]) {
@@ -267,14 +197,7 @@ fn open_refusals(string: &[u8]) {
     message::seal(key, key, text, text, &mut sealed);
     open_size_refusals(string, &sealed);
     sealed[20] ^= 128;
-    print_open(
-        b"open, last tag bit turned:",
-        key,
-        key,
-        text,
-        &sealed,
-        &mut out,
-    );
+    print_open(b"open, tag bit turned:", key, key, text, &sealed, &mut out);
 }
 
 fn string() -> [u8; 65553] {

@@ -1,6 +1,6 @@
 // Strings to run the cases on, and printing.
 
-// Byte i of a string that differs from every other so made.
+// Byte i of the strings that fill makes; those of two masks differ at every place.
 fn byte_at(i: usize, mask: u8) -> u8 {
     ((i % 251) as u8) ^ mask
 }
@@ -28,7 +28,7 @@ pub(crate) fn holds(s: &[u8], first: usize, end: usize, mask: u8) -> bool {
     true
 }
 
-// The first n bytes of s; all, where there are no more.
+// The first n bytes of s; all, where there are fewer.
 pub(crate) fn first(s: &[u8], n: usize) -> &[u8] {
     if s.len() < n {
         return s;

@@ -48,8 +48,8 @@ part-write-tag-end c = search needs
 write-tag-requires : tie.Need-write-tag-requires
 write-tag-requires c κs = search needs
 
-add-t17 : tie.Need-add-t17
-add-t17 c =
+add-written : tie.Need-add-written
+add-written c =
     let a = c .before .before .before .before .before .before .before .before .before .before .before .before .before .before .before .before .before .before .args in
     let w = let-through (a .key .now) (a .nonce .now) (a .«data» .now) (a .text .now) (a .out .now) _ (c .before .before .before .before .before .before .before .before .before .before .before .seal-refusal .ensures) (c .before .before .before .before .before .before .before .before .before .before .if1 .left) .0 in
     omega (arith, w .text-limit)
@@ -83,6 +83,6 @@ seal-spec =
     part-write-tag-start
     part-write-tag-end
     write-tag-requires
-    add-t17
+    add-written
     same-length-2
     returns-2)
