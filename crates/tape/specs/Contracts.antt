@@ -1,11 +1,13 @@
 -- How a writer is held against document 01's plain writer: the one equation that every method's contract is.
 use mathlib.Core.Path.{_≡_}
-use mathlib.Core.Bool.{Bool}
+use mathlib.Core.Bool.{Bool, not}
 use mathlib.Core.List.{List}
 use Prim.Native.Nat.{ℕ}
-use Rattle.acorn_model.specs.Calls.{Reply, refused, done, Work, Outcome, answerReply}
+use Rattle.acorn_model.specs.Bits.{_if_else_}
+use Rattle.acorn_model.specs.Calls.{Reply, refused, done, Work, accepted, Outcome, answerReply}
 use Rattle.acorn_model.specs.Machine.{Machine, begin, dataCall, call}
-use Rattle.tape_model.specs.Tape.{nonceOf}
+use Rattle.acorn_model.specs.Message.{tagMatches}
+use Rattle.tape_model.specs.Tape.{nonceOf, unpackTickets, isRefused, headBytes, sealedBytes, ticketCount, plainBytes}
 use Rattle.tape_model.specs.Writer.{PlainWriter, WriterCall, phaseAllows, keyRight, headRight, ticketRight, tapeFull, outputShort, refusal, writerCall}
 use Rattle.session.specs.Contracts.{machineOf, wrappedMachine, wrappedReply}
 use Rattle.tape.specs.declared.Writer.{Writer}
@@ -50,3 +52,10 @@ unfoldable pub headTaken : Machine → List ℕ → List ℕ → Outcome Machine
 headTaken m key head =
     let begun : Outcome Machine Work = call m (begin key (nonceOf head)) in
     unlessBegun (begun .answer) begun (call (begun .next) (dataCall head))
+
+-- the numbers that an opened tape's tag and tickets give, where no smaller one applies
+unfoldable pub textRefusal : List ℕ → List ℕ → ℕ
+textRefusal key tape =
+    7 if not (tagMatches key (nonceOf (headBytes tape)) (headBytes tape) (sealedBytes tape)) else
+    8 if isRefused (unpackTickets (ticketCount tape) (plainBytes key tape)) else
+    accepted

@@ -1,9 +1,15 @@
-// Tapes: a writer seals a shift's tickets behind a head. Every call of the writer takes it and hands back the writer after it, with an answer:
+// Tapes: a writer seals a shift's tickets behind a head, and `open_tape` opens them. Every call of the writer takes it and hands back the writer after it, with an answer:
 // a refusal number, or the bytes that the call wrote and the steps run since the writer was fresh. A refused call changes nothing.
+mod opening;
 mod refusal;
 
 use acorn_model::Answer;
 use acorn_model::Kind;
+use opening::open_by;
+use opening::open_refusal;
+use opening::zeros_512;
+use opening::zeros_8192;
+use opening::zeros_65536;
 use refusal::is_done;
 use refusal::is_fresh;
 use refusal::is_open;
@@ -11,6 +17,7 @@ use refusal::number;
 use session::Reply;
 use session::Session;
 use tape_model::Head;
+use tape_model::OpenedTape;
 use tape_model::Ticket;
 use tape_model::WriterPhase;
 ghost use mathlib.Core.Path.{_≡_};
@@ -18,7 +25,7 @@ ghost use mathlib.Core.Bool.{true};
 ghost use mathlib.Core.List.{[]};
 ghost use lib.ListN.{length};
 ghost use Rattle.tape_model.specs.Ticket.{headLength, headRule, packHead};
-ghost use Rattle.tape_model.specs.Tape.{nonceOf};
+ghost use Rattle.tape_model.specs.Tape.{nonceOf, openTape, openedReply};
 ghost use Rattle.tape_model.specs.Writer as plain;
 ghost use Rattle.session.specs.Contracts.{machineOf, outcomeOf, wrappedOutcome};
 ghost use Rattle.tape.specs.Contracts.{writerOf, WriterCalled, headTaken};
@@ -196,4 +203,25 @@ impl Writer {
             },
         }
     }
+}
+
+// Opens a tape: writes the plain bytes of its tickets, once the tag is known to match and every ticket has unpacked, and answers their
+// number and total net. The scratch is no longer than the tape makes needful, since it is cleared first.
+pub fn open_tape(key: &[u8], tape: &[u8], out: &mut [u8]) -> OpenedTape
+    ensures { λ r. ⌜ openTape (now (key .entry)) (now (tape .entry)) (now (out .entry)) ≡ record { answer = openedReply r; out = now (out .exit) } ⌝ }
+{
+    let number = open_refusal(key, tape, out);
+    if number != 0 {
+        return OpenedTape::Refused(number);
+    }
+    if tape.len() <= 512 + 25 {
+        let mut scratch = zeros_512();
+        return open_by(&mut scratch, key, tape, out);
+    }
+    if tape.len() <= 8192 + 25 {
+        let mut scratch = zeros_8192();
+        return open_by(&mut scratch, key, tape, out);
+    }
+    let mut scratch = zeros_65536();
+    open_by(&mut scratch, key, tape, out)
 }

@@ -1,0 +1,88 @@
+-- The numbers that a tape's sizes and head give, and what the sizes are where none of them applies.
+use mathlib.Core.Path.{_≡_, refl, sym, ap, _∙_}
+use mathlib.Core.Bool.{Bool, true, false, not, _&&_}
+use mathlib.Core.List.{List}
+use Prim.Native.Nat.{ℕ, zero, suc, _-_, _*_, _/_, _%_, _≤_}
+use native.Mathlib.Omega.{arith}
+use lib.Dec.{eqb, leb, ltb}
+use lib.ListN.{length}
+use borrow.Author.Tests.{eqb-true, leb-true, ltb-false, not-false}
+use Rattle.acorn_model.specs.Bits.{_if_else_}
+use Rattle.acorn_model.specs.Calls.{refused, unlessRefused}
+use Rattle.acorn_model.specs.Machine.{keyLength}
+use Rattle.acorn_model.specs.Message.{resultOf, tagMatches}
+use Rattle.acorn_model.proofs.Choices.{both}
+use Rattle.tape_model.specs.Ticket.{ticketLength, unpackHead}
+use Rattle.tape_model.specs.Tape.{ticketLimit, nonceOf, ticketsLength, unpackTickets, isRefused, emptyTapeLength, tapeLength, headBytes, sealedBytes, ticketCount, plainBytes, openRefusal, openTape}
+use Rattle.tape.specs.Contracts.{textRefusal}
+
+-- ## A tape's length
+
+pub record TapeSize (n : ℕ) : Type 0 where
+  pub long : emptyTapeLength ≤ n
+  pub whole : (n - emptyTapeLength) % ticketLength ≡ 0
+  pub few : (n - emptyTapeLength) / ticketLength ≤ ticketLimit
+
+pub sizes-told : (key : List ℕ) (n : ℕ) (sized : Bool) → sized ≡ tapeLength n → not (eqb (length key) keyLength && sized) ≡ false → (length key ≡ keyLength) × TapeSize n
+unfolding tapeLength ticketsLength
+sizes-told key n sized s e =
+    let a = both (eqb (length key) keyLength) sized (not-false _ e) in
+    let l = both (leb emptyTapeLength n) _ (sym s ∙ a .1) in
+    let t = both (eqb ((n - emptyTapeLength) % ticketLength) 0) _ (l .1) in
+    (eqb-true _ _ (a .0), record { long = leb-true _ _ (l .0); whole = eqb-true _ _ (t .0); few = leb-true _ _ (t .1) })
+
+-- 13 bytes for each ticket are all the text
+pub text-length : (n : ℕ) → TapeSize n → ticketLength * ((n - emptyTapeLength) / ticketLength) ≡ n - emptyTapeLength
+text-length n s = omega (arith, s .whole)
+
+-- ## The numbers
+
+passed : (a b c : Bool) (n : ℕ) → (n ≡ 2 → ⊥) → (n ≡ 3 → ⊥) → (n ≡ 6 → ⊥) → (2 if a else 3 if b else 6 if c else n) ≡ n → (a ≡ false) × (c ≡ false)
+passed true b c n h2 h3 h6 e = absurd (h2 (sym e))
+passed false true c n h2 h3 h6 e = absurd (h3 (sym e))
+passed false false true n h2 h3 h6 e = absurd (h6 (sym e))
+passed false false false n h2 h3 h6 e = (refl, refl)
+
+by-text : (matches fails : Bool) (n : ℕ) → (n ≡ 7 → ⊥) → (n ≡ 8 → ⊥) → (n ≡ 0 → ⊥) → (7 if not matches else 8 if fails else 0) ≡ n → ⊥
+by-text false fails n h7 h8 h0 e = h7 (sym e)
+by-text true true n h7 h8 h0 e = h8 (sym e)
+by-text true false n h7 h8 h0 e = h0 (sym e)
+
+refused-by : (n t r : ℕ) → r ≡ unlessRefused n t n → (n ≡ 0 → ⊥) → r ≡ n
+unfolding unlessRefused
+refused-by zero t r e h = absurd (h refl)
+refused-by (suc n) t r e h = e
+
+-- the numbers 2, 3 and 6 do not apply
+pub record Openable (key tape out : List ℕ) : Type 0 where
+  pub key-size : length key ≡ keyLength
+  pub tape-size : TapeSize (length tape)
+  pub room : length tape - emptyTapeLength ≤ length out
+
+module _ (key tape out : List ℕ) where
+  pub refused-with : (n : ℕ) → openRefusal key tape out ≡ suc n → openTape key tape out ≡ record { answer = refused (suc n); out = out }
+  unfolding openTape resultOf unlessRefused
+  refused-with n e = rw e
+
+  module _ (n : ℕ) (number : openRefusal key tape out ≡ unlessRefused n (textRefusal key tape) n) where
+    pub sent-back : (n ≡ 0 → ⊥) → openTape key tape out ≡ record { answer = refused n; out = out }
+    sent-back h = by n (refused-by n (textRefusal key tape) _ number h) h
+      where
+        by : (m : ℕ) → openRefusal key tape out ≡ m → (m ≡ 0 → ⊥) → openTape key tape out ≡ record { answer = refused m; out = out }
+        by zero e z = absurd (z refl)
+        by (suc m) e z = refused-with m e
+
+    pub let-through : n ≡ 0 → openRefusal key tape out ≡ textRefusal key tape
+    unfolding unlessRefused
+    let-through e = number ∙ ap (λ (k : ℕ). unlessRefused k (textRefusal key tape) k) e
+
+  pub openable : openRefusal key tape out ≡ textRefusal key tape → Openable key tape out
+  unfolding openRefusal textRefusal
+  openable e =
+      let matches = tagMatches key (nonceOf (headBytes tape)) (headBytes tape) (sealedBytes tape) in
+      let fails = isRefused (unpackTickets (ticketCount tape) (plainBytes key tape)) in
+      let not-number = by-text matches fails in
+      let p = passed (not (eqb (length key) keyLength && tapeLength (length tape))) (isRefused (unpackHead (headBytes tape))) (ltb (length out) (ticketLength * ticketCount tape)) (textRefusal key tape)
+      (not-number 2 (omega arith) (omega arith) (omega arith)) (not-number 3 (omega arith) (omega arith) (omega arith)) (not-number 6 (omega arith) (omega arith) (omega arith)) e in
+      let sizes = sizes-told key (length tape) (tapeLength (length tape)) refl (p .0) in
+      record { key-size = sizes .0; tape-size = sizes .1; room = omega (arith, text-length (length tape) (sizes .1), ltb-false (length out) (ticketLength * ticketCount tape) (p .1)) }

@@ -1,0 +1,19 @@
+-- `tape_length` is the rule for a tape's length.
+use borrow.Author.Tests.{le-leb, lt-leb}
+use native.Mathlib.Omega.{arith}
+use Rattle.tape_model.specs.Tape.{emptyTapeLength, ticketsLength, tapeLength}
+use Rattle.tape.proofs.opening.tape_length.Statement.{statement}
+use Rattle.tape.proofs.opening.tape_length.Tie as tie
+use Rattle.tape.proofs.opening.tape_length.Reads as reads
+use Rattle.tape.proofs.opening.tape_length.Lts as lts
+
+returns : tie.Need-returns
+unfolding tapeLength
+returns c = rw (lt-leb emptyTapeLength (c .before .args .n) (omega (arith, c .if1 .taken)))
+
+returns-2 : tie.Need-returns-2
+unfolding tapeLength ticketsLength
+returns-2 c = rw (le-leb emptyTapeLength (c .before .args .n) (omega (arith, c .if1 .left)))
+
+pub tape-length-spec : {M : Type 1} → statement M
+tape-length-spec = tie.close (tie.spec returns returns-2)
