@@ -4,7 +4,7 @@ use mathlib.Core.Bool.{_||_}
 use mathlib.Core.List.{List}
 use mathlib.Core.Logic.{⊎-elim}
 use Prim.Native.Nat.{ℕ, zero, suc, _+_, _-_, _*_, _/_, _%_, _^_, _≤_, _<_}
-use native.Mathlib.Nat.{mod-eq-of-lt, lt-of-lt-of-le}
+use native.Mathlib.Nat.{lt-of-lt-of-le}
 use native.Mathlib.Omega.{arith}
 use lib.ListN.{length, getD, set}
 use lib.Seq.{paste, paste-zero, paste-suc}
@@ -14,7 +14,7 @@ use Rattle.acorn_model.specs.Bits.{Bits, bit, bitsIn, number, bytes}
 use Rattle.acorn_model.proofs.Numbers.{lt-or-ge, bit-shift, number-of, number-same}
 use Rattle.acorn_model.proofs.Bytes.{bytes-length}
 use Rattle.acorn.proofs.WordBits.{bit-or, bit-above, or-false}
-use Rattle.acorn.proofs.ShiftedBits.{lifted, lifted-below, lifted-in}
+use Rattle.acorn.proofs.ShiftedBits.{lifted, lifted-below, lifted-from}
 
 -- ## Reading
 
@@ -33,22 +33,16 @@ module _ (l : List ℕ) (a j x : ℕ) (h : j < 4) (hx : x < 2 ^ (8 * j)) (hb : g
       or-lt (8 * (j + 1)) x ((getD l (a + j) 0 * 2 ^ (8 * j)) % 2 ^ 32) (lt-of-lt-of-le hx (pow-mono (omega arith)))
       (rw (shl-exact {a = getD l (a + j) 0} 8 (8 * j) 32 hb (omega arith)) (lt-of-lt-of-le (shl-lt 8 (8 * j) hb) (pow-mono (omega arith))))
 
-  -- the byte as a word whose 8 bits were moved up, below place 8 (j + 1)
-  is-lifted : (i : ℕ) → bit ((getD l (a + j) 0 * 2 ^ (8 * j)) % 2 ^ 32) i ≡ bit (lifted 32 (getD l (a + j) 0) 8 (8 * (j + 1)) i (omega arith) (omega arith)) i
-  is-lifted i = ap₂ (λ (b e : ℕ). bit ((b * 2 ^ e) % 2 ^ 32) i) (sym (mod-eq-of-lt hb)) (omega arith)
-
   pub longer-bits : (i : ℕ) → i < 8 * (j + 1) → bit longer i ≡ bitsIn l (8 * a + i)
-  longer-bits i hi = bit-or x ((getD l (a + j) 0 * 2 ^ (8 * j)) % 2 ^ 32) i ∙ ⊎-elim below above (lt-or-ge i (8 * j))
+  longer-bits i hi = bit-or x (lifted 32 (getD l (a + j) 0) (8 * j)) i ∙ ⊎-elim below above (lt-or-ge i (8 * j))
     where
-      below : i < 8 * j → (bit x i || bit ((getD l (a + j) 0 * 2 ^ (8 * j)) % 2 ^ 32) i) ≡ bitsIn l (8 * a + i)
-      below k =
-          ap₂ _||_ (g i k) (is-lifted i ∙ lifted-below 32 (getD l (a + j) 0) 8 (8 * (j + 1)) i (omega arith) (omega arith) (omega arith))
-          ∙ or-false (bitsIn l (8 * a + i))
+      below : i < 8 * j → (bit x i || bit (lifted 32 (getD l (a + j) 0) (8 * j)) i) ≡ bitsIn l (8 * a + i)
+      below k = ap₂ _||_ (g i k) (lifted-below 32 (getD l (a + j) 0) (8 * j) i (omega arith) k) ∙ or-false (bitsIn l (8 * a + i))
 
-      above : 8 * j ≤ i → (bit x i || bit ((getD l (a + j) 0 * 2 ^ (8 * j)) % 2 ^ 32) i) ≡ bitsIn l (8 * a + i)
+      above : 8 * j ≤ i → (bit x i || bit (lifted 32 (getD l (a + j) 0) (8 * j)) i) ≡ bitsIn l (8 * a + i)
       above k =
-          ap₂ _||_ (bit-above x (8 * j) i hx k) (is-lifted i ∙ lifted-in 32 (getD l (a + j) 0) 8 (8 * (j + 1)) i (omega arith) (omega arith) (omega arith) hi)
-          ∙ sym (bits-at l (a + j) (i + 8 - 8 * (j + 1)) (omega arith)) ∙ ap (bitsIn l) (omega arith)
+          ap₂ _||_ (bit-above x (8 * j) i hx k) (lifted-from 32 (getD l (a + j) 0) (8 * j) i (omega arith) k)
+          ∙ sym (bits-at l (a + j) (i - 8 * j) (omega arith)) ∙ ap (bitsIn l) (omega arith)
 
 -- one to four bytes at once
 module _ (l : List ℕ) (a : ℕ) (hb : (p : ℕ) → getD l p 0 < 2 ^ 8) where

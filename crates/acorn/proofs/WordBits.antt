@@ -3,10 +3,10 @@ use mathlib.Core.Path.{_≡_, refl, sym, ap, _∙_}
 use mathlib.Core.Bool.{Bool, true, false, not, _&&_, _||_}
 use mathlib.Core.Logic.{⊎-elim}
 use Prim.Native.Nat.{ℕ, suc, _+_, _-_, _*_, _/_, _%_, _^_, _≤_, _<_}
-use native.Mathlib.Nat.{mod-lt, mod-eq-of-lt, div-eq-of-lt, mul-assoc, mul-div-cancel, lt-of-lt-of-le, zero-lt-suc, one-mul}
+use native.Mathlib.Nat.{mod-lt, mod-eq-of-lt, div-eq-of-lt, mul-assoc, mul-div-cancel, lt-of-lt-of-le, zero-lt-suc}
 use native.Mathlib.Omega.{arith}
 use lib.Dec.{eqb}
-use lib.Pow.{pow-pos, pow-mono, pow-add, shl-shr, shl-exact, field, mod-mod-pow}
+use lib.Pow.{pow-pos, pow-mono, pow-add, shl-shr, field, mod-mod-pow}
 use lib.Bits.{bitAnd, bitOr, bitXor, and-shr, or-shr, xor-shr, and-mod, or-mod, xor-mod, and-mask, shifted-even, xor-add-and}
 use Rattle.acorn_model.specs.Bits.{_⊕_, bit}
 use Rattle.acorn_model.proofs.Numbers.{zero-or-one, bit-shift}
@@ -65,13 +65,7 @@ bit-mod-above w n j l = bit-above (w % 2 ^ n) n j (mod-lt w (pow-pos n)) l
 pub bit-zero : (j : ℕ) → bit 0 j ≡ false
 bit-zero j = bit-above 0 0 j (omega arith) (omega arith)
 
--- `w & ((1 << n) - 1)`
-pub low-pos : (n : ℕ) → n < 64 → 1 ≤ (1 * 2 ^ n) % 2 ^ 64
-low-pos n h = omega (arith, shl-exact {a = 1} 1 n 64 (omega arith) (omega arith), pow-pos n)
-
-pub low-mask : (w n : ℕ) → n < 64 → bitAnd w ((1 * 2 ^ n) % 2 ^ 64 - 1) ≡ w % 2 ^ n
-low-mask w n h = ap (λ (x : ℕ). bitAnd w (x - 1)) (shl-exact 1 n 64 (omega arith) (omega arith) ∙ one-mul (2 ^ n)) ∙ and-mask w n
-
+-- a number of ones
 pub bit-ones : (k j : ℕ) → j < k → bit (2 ^ k - 1) j ≡ true
 unfolding bit
 bit-ones k j h =

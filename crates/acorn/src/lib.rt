@@ -24,7 +24,7 @@ ghost use Rattle.acorn.specs.Together.{stateOf};
 ghost use Rattle.acorn.specs.Runs.{TextRun, startState, endRow, tagOutput};
 
 // The 293 bits in six words: S0 to S60, S61 to S106, S107 to S153, S154 to S192, S193 to S229, S230 to S292.
-// The bits of a word above its own are of no account.
+// Each has the highest places of its word; the bits below are of no account.
 pub struct State {
     pub w0: u64,
     pub w1: u64,

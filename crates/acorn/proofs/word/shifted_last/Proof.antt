@@ -7,9 +7,6 @@ use Rattle.acorn.proofs.word.shifted_last.Tie as tie
 shifted-requires : tie.Need-shifted-requires
 shifted-requires c κs = search needs
 
-low-requires : tie.Need-low-requires
-low-requires c κs = search needs
-
 sub-result : tie.Need-sub-result
 sub-result c = search needs
 
@@ -18,9 +15,9 @@ shl-result c = search needs
 
 returns : tie.Need-returns
 returns c =
-    let a = c .before .before .args in
-    rw (c .low .ensures)
-    (both-lower 59 4 (a .w) (a .u) (a .n) (c .before .shifted .result) (a .k) (search needs) (search needs) (c .before .shifted .ensures), both-upper 59 4 (a .w) (a .u) (a .n) (c .before .shifted .result) (a .k) (search needs) (search needs) (c .before .shifted .ensures))
+    let a = c .before .args in
+    let r = c .shifted in
+    (both-lower 60 4 (a .w) (a .u) (a .n) (r .result) (a .k) (search needs) (r .ensures), both-upper 60 4 (a .w) (a .u) (a .n) (r .result) (a .k) (search needs) (r .ensures))
 
 pub shifted-last-spec : {M : Type 1} → statement M
-shifted-last-spec = tie.close (tie.spec shifted-requires low-requires sub-result shl-result returns)
+shifted-last-spec = tie.close (tie.spec shifted-requires sub-result shl-result returns)
