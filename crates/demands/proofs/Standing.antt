@@ -1,12 +1,13 @@
 -- A session for every machine that holds nothing above its 293 bits, a writer for every plain writer on such a machine, and that calls leave
 -- nothing above them.
-use mathlib.Core.Path.{_≡_, refl}
+use mathlib.Core.Path.{_≡_, refl, ap, _∙_}
 use mathlib.Core.Bool.{Bool, true, false}
 use mathlib.Core.List.{List}
-use Prim.Native.Nat.{ℕ, _+_}
+use Prim.Native.Nat.{ℕ, _+_, _*_, _/_, _^_, _<_}
+use lib.Pow.{shl-shr}
 use Rattle.acorn_model.specs.declared.Answer.{Answer}
 use Rattle.acorn_model.specs.declared.Answer.the-variants.{Refused, Done}
-use Rattle.acorn_model.specs.Bits.{Bits, _if_else_, number}
+use Rattle.acorn_model.specs.Bits.{Bits, _if_else_, bit, number}
 use Rattle.acorn_model.specs.Stretches.{Stretch, inputs, through, dataEnd}
 use Rattle.acorn_model.specs.Calls.{Reply, refused, done, Work, Outcome, answerReply, refusedWith}
 use Rattle.acorn_model.specs.Machine.{Machine, Call, begin, dataCall, sealText, checkText, sealClose, checkClose, outputOf, isData, refusal}
@@ -61,16 +62,20 @@ call-clear m c h =
 
 -- ## The session that stands for such a machine
 
+-- bits that stand k places up in a word
+held-bit : (n k : ℕ) (b : Bits) (j : ℕ) → j < n → bit (number n b * 2 ^ k / 2 ^ k) j ≡ b j
+held-bit n k b j l = ap (λ (x : ℕ). bit x j) (shl-shr (number n b) k) ∙ number-bit n b j l
+
 -- the words of these bits
 wordsOf : Bits → State
 wordsOf S =
     record {
-      w0 = number 61 (λ j. S (0 + j));
-      w1 = number 46 (λ j. S (61 + j));
-      w2 = number 47 (λ j. S (107 + j));
-      w3 = number 39 (λ j. S (154 + j));
-      w4 = number 37 (λ j. S (193 + j));
-      w5 = number 63 (λ j. S (230 + j));
+      w0 = number 61 (λ j. S (0 + j)) * 2 ^ 3;
+      w1 = number 46 (λ j. S (61 + j)) * 2 ^ 18;
+      w2 = number 47 (λ j. S (107 + j)) * 2 ^ 17;
+      w3 = number 39 (λ j. S (154 + j)) * 2 ^ 25;
+      w4 = number 37 (λ j. S (193 + j)) * 2 ^ 27;
+      w5 = number 63 (λ j. S (230 + j)) * 2 ^ 1;
     }
 
 words-hold : (m : Machine) → Clear m → stateOf (wordsOf (m .state)) ≡ m .state
@@ -78,12 +83,12 @@ unfolding wordsOf
 words-hold m h =
     let S = m .state in
     state-is (wordsOf S) S
-    (λ j l. number-bit 61 (λ i. S (0 + i)) j l)
-    (λ j l. number-bit 46 (λ i. S (61 + i)) j l)
-    (λ j l. number-bit 47 (λ i. S (107 + i)) j l)
-    (λ j l. number-bit 39 (λ i. S (154 + i)) j l)
-    (λ j l. number-bit 37 (λ i. S (193 + i)) j l)
-    (λ j l. number-bit 63 (λ i. S (230 + i)) j l) h
+    (λ j l. held-bit 61 3 (λ i. S (0 + i)) j l)
+    (λ j l. held-bit 46 18 (λ i. S (61 + i)) j l)
+    (λ j l. held-bit 47 17 (λ i. S (107 + i)) j l)
+    (λ j l. held-bit 39 25 (λ i. S (154 + i)) j l)
+    (λ j l. held-bit 37 27 (λ i. S (193 + i)) j l)
+    (λ j l. held-bit 63 1 (λ i. S (230 + i)) j l) h
 
 pub sessionOf : Machine → Session
 sessionOf m =
