@@ -2,11 +2,10 @@
 use mathlib.Core.Path.{_≡_, refl, sym, ap, _∙_}
 use mathlib.Core.Bool.{Bool}
 use mathlib.Core.List.{List}
-use mathlib.Core.Logic.{⊎-elim, _⊎_}
 use Prim.Native.Nat.{ℕ, _+_, _-_, _≤_, _<_}
 use native.Mathlib.Omega.{arith}
-use lib.Dec.{eqb, ltb}
-use borrow.Author.Tests.{lt-ltb, le-ltb, eq-eqb, ne-eqb}
+use lib.Dec.{ltb}
+use borrow.Author.Tests.{lt-ltb, le-ltb}
 use Rattle.acorn_model.specs.Stretches.{start, dataPiece, dataEnd, textPiece, textEnd}
 use Rattle.acorn.specs.Table.{stretchAt, firstStep, rowOf, caAt, cbAt, ControlsAt}
 use Rattle.acorn.specs.declared.stretch.Stretch.{Stretch}
@@ -60,19 +59,6 @@ module _ (i : ℕ) where
 
   pub cb-of-row : (stretch : Stretch) → i < rowOf stretch .steps → cbAt (firstStep stretch + i) ≡ rowOf stretch .cb
   cb-of-row stretch h = cb-in (firstStep stretch + i) stretch (in-stretch stretch h)
-
--- the ends, by their first step
-module _ (first n : ℕ) (end : (first ≡ 1792) ⊎ (first ≡ 2048)) (h : n < 256) where
-  pub ca-of-end : caAt (first + n) ≡ ltb n 128
-  unfolding rowOf firstStep
-  ca-of-end =
-      ⊎-elim (λ (e : first ≡ 1792). ap (λ (f : ℕ). caAt (f + n)) e ∙ ca-of-row n DataEnd h) (λ (e : first ≡ 2048). ap (λ (f : ℕ). caAt (f + n)) e ∙ ca-of-row n TextEnd h) end
-
-  pub cb-of-end : cbAt (first + n) ≡ eqb first 1792
-  unfolding rowOf firstStep
-  cb-of-end =
-      ⊎-elim (λ (e : first ≡ 1792). ap (λ (f : ℕ). cbAt (f + n)) e ∙ cb-of-row n DataEnd h ∙ sym (eq-eqb first 1792 e))
-      (λ (e : first ≡ 2048). ap (λ (f : ℕ). cbAt (f + n)) e ∙ cb-of-row n TextEnd h ∙ sym (ne-eqb first 1792 (omega arith))) end
 
 -- ## The seams
 

@@ -2,7 +2,7 @@
 use mathlib.Core.Path.{_≡_, refl, sym, ap, ap₂, _∙_}
 use mathlib.Core.Bool.{Bool, true, false, _&&_, cond}
 use mathlib.Core.List.{List, _++_, append-nil}
-use mathlib.Core.Logic.{⊎-elim, _⊎_}
+use mathlib.Core.Logic.{⊎-elim}
 use Prim.Native.Nat.{ℕ, zero, suc, _+_, _-_, _*_, _/_, _%_, _≤_, _<_}
 use native.Mathlib.Omega.{arith}
 use lib.Dec.{eqb, ltb, lit<}
@@ -10,10 +10,10 @@ use lib.ListN.{length, drop-of-length-le}
 use borrow.Author.Tests.{lt-ltb, le-ltb, eq-eqb, ne-eqb}
 use Rattle.acorn_model.specs.Bits.{Bits, _⊕_, bit, bitsIn}
 use Rattle.acorn_model.specs.Step.{StepInput, run, keystreamBit}
-use Rattle.acorn_model.specs.Stretches.{inputs, through, keystream, zeros, start, startBit, final, tagOf, tagLength}
+use Rattle.acorn_model.specs.Stretches.{Stretch, inputs, through, keystream, zeros, start, startBit, final, tagOf, tagLength}
 use Rattle.acorn_model.specs.Calls.{writtenOver}
 use Rattle.acorn.specs.Together.{inputsFrom, Together}
-use Rattle.acorn.specs.Runs.{endRow, startState, tagOutput}
+use Rattle.acorn.specs.Runs.{startState, tagOutput}
 use Rattle.acorn.specs.Table.{caAt, cbAt, rowOf}
 use Rattle.acorn.specs.declared.stretch.Stretch.the-variants.{Start, Final}
 use Rattle.acorn_model.proofs.Numbers.{lt-or-ge}
@@ -21,7 +21,7 @@ use Rattle.acorn_model.proofs.Runs.{run-add}
 use Rattle.acorn_model.proofs.Bytes.{bytes-length, bytes-same}
 use Rattle.acorn.proofs.WordBits.{bit-above, bit-zero}
 use Rattle.acorn.proofs.StretchRuns.{state-more, ks-more, Written, written-all}
-use Rattle.acorn.proofs.ControlTable.{in-start, in-final, ca-in, cb-in, ca-of-end, cb-of-end}
+use Rattle.acorn.proofs.ControlTable.{in-start, in-final, ca-in, cb-in}
 
 -- what a step takes
 abbrev input : Bool → Bool → Bool → StepInput
@@ -92,11 +92,15 @@ one-now n i e = let d : i ≡ n + i = omega arith in one-bit i ∙ ap (λ (q : �
 pub one-past : (n i : ℕ) → (n ≡ 0 → ⊥) → bit 0 i ≡ eqb (n + i) 0
 one-past n i f = bit-zero i ∙ sym (ne-eqb (n + i) 0 (omega arith))
 
-pub end-more : (first : ℕ) (S T T' : Bits) (n x z : ℕ) (ca cb : Bool) → (first ≡ 1792) ⊎ (first ≡ 2048) → n < 256 → n % 32 ≡ 0 → ca ≡ caAt (first + n) → cb ≡ cbAt (first + n)
-    → T ≡ run (inputs (endRow (eqb first 1792))) n S → ((i : ℕ) → bit x i ≡ eqb (n + i) 0) → Together T x false ca cb 32 T' z → T' ≡ run (inputs (endRow (eqb first 1792))) (n + 32) S
-end-more first S T T' n x z ca cb end h d ea eb reached bits steps =
-    state-more (endRow (eqb first 1792)) S T T' n 32 x z false ca cb reached
-    (λ i l. ap₂ (λ (a b : Bool). input a b (bit x i)) (ea ∙ ca-of-end first n end h ∙ steady i l) (eb ∙ cb-of-end first n end h) ∙ ap (input (ltb (n + i) 128) (eqb first 1792)) (bits i)) steps
+-- data end and text end, which differ in cb alone
+abbrev endRow : Bool → Stretch
+endRow cb = record { steps = 256; m = λ i ks. eqb i 0; ca = λ i. ltb i 128; cb = cb }
+
+pub end-more : (end : Bool) (S T T' : Bits) (n x z : ℕ) (ca cb : Bool) → n < 256 → n % 32 ≡ 0 → ca ≡ ltb n 128 → cb ≡ end → T ≡ run (inputs (endRow end)) n S
+    → ((i : ℕ) → bit x i ≡ eqb (n + i) 0) → Together T x false ca cb 32 T' z → T' ≡ run (inputs (endRow end)) (n + 32) S
+end-more end S T T' n x z ca cb h d ea eb reached bits steps =
+    state-more (endRow end) S T T' n 32 x z false ca cb reached
+    (λ i l. ap₂ (λ (a b : Bool). input a b (bit x i)) (ea ∙ steady i l) eb ∙ ap (input (ltb (n + i) 128) end) (bits i)) steps
   where
     steady : (i : ℕ) → i < 32 → ltb n 128 ≡ ltb (n + i) 128
     steady i l = ⊎-elim (λ (p : n < 128). lt-ltb n 128 p ∙ sym (lt-ltb (n + i) 128 (omega arith))) (λ (p : 128 ≤ n). le-ltb n 128 p ∙ sym (le-ltb (n + i) 128 (omega arith))) (lt-or-ge n 128)

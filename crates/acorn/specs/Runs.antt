@@ -3,10 +3,10 @@ use mathlib.Core.Path.{_≡_}
 use mathlib.Core.Bool.{Bool}
 use mathlib.Core.List.{List}
 use Prim.Native.Nat.{ℕ}
-use lib.Dec.{eqb, ltb}
+use lib.Dec.{ltb}
 use lib.ListN.{length}
 use Rattle.acorn_model.specs.Bits.{Bits, _if_else_}
-use Rattle.acorn_model.specs.Stretches.{Stretch, through, zeros, start, textPiece, textOut, tagOf, tagLength}
+use Rattle.acorn_model.specs.Stretches.{through, zeros, start, textPiece, textOut, tagOf, tagLength}
 use Rattle.acorn_model.specs.Calls.{writtenOver}
 use Rattle.acorn_model.specs.Machine.{keyAndNonceRight}
 
@@ -18,10 +18,6 @@ pub record TextRun (opening : Bool) (S : Bits) (piece out : List ℕ) (S′ : Bi
 -- the state after start, of a key and a nonce of 16 bytes
 unfoldable pub startState : List ℕ → List ℕ → Bits
 startState key nonce = through (start key nonce) zeros if keyAndNonceRight key nonce else zeros
-
--- data end and text end, which differ in cb alone
-abbrev pub endRow : Bool → Stretch
-endRow cb = record { steps = 256; m = λ i ks. eqb i 0; ca = λ i. ltb i 128; cb = cb }
 
 -- the output after the tag of the state S before final is written
 unfoldable pub tagOutput : Bits → List ℕ → List ℕ

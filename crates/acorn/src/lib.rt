@@ -17,11 +17,9 @@ use stretch::key_again;
 use stretch::leading_one;
 ghost use mathlib.Core.Path.{_≡_};
 ghost use mathlib.Core.Bool.{false, true};
-ghost use mathlib.Core.Logic.{_⊎_};
-ghost use lib.Dec.{eqb};
 ghost use Rattle.acorn_model.specs.Stretches.{zeros as allZeros, through, dataPiece, dataEnd, textPiece, textEnd, tagOf};
 ghost use Rattle.acorn.specs.Together.{stateOf};
-ghost use Rattle.acorn.specs.Runs.{TextRun, startState, endRow, tagOutput};
+ghost use Rattle.acorn.specs.Runs.{TextRun, startState, tagOutput};
 
 // The 293 bits in six words: S0 to S60, S61 to S106, S107 to S153, S154 to S192, S193 to S229, S230 to S292.
 // Each has the highest places of its word; the bits below are of no account.
@@ -202,16 +200,16 @@ pub fn start(key: &[u8], nonce: &[u8]) -> State
     t
 }
 
-// Data end or text end, by the number of its first step.
-fn end(s: State, first: u64) -> State
-    requires { ⌜ (first ≡ 1792) ⊎ (first ≡ 2048) ⌝ }
-    ensures { λ r. ⌜ stateOf r ≡ through (endRow (eqb first 1792)) (stateOf s) ⌝ }
+// The first step of each end is a literal in its loop, as its control bits fold then.
+
+pub fn end_data(s: State) -> State
+    ensures { λ r. ⌜ stateOf r ≡ through dataEnd (stateOf s) ⌝ }
 {
     let mut t = s;
     let mut n: u64 = 0;
     while n < 256 {
         let x = leading_one(n);
-        let c = controls_at(first + n);
+        let c = controls_at(DATA_END + n);
         let ca = c.ca;
         let cb = c.cb;
         let m = together(t, x, false, ca, cb, 32);
@@ -222,16 +220,22 @@ fn end(s: State, first: u64) -> State
     t
 }
 
-pub fn end_data(s: State) -> State
-    ensures { λ r. ⌜ stateOf r ≡ through dataEnd (stateOf s) ⌝ }
-{
-    end(s, DATA_END)
-}
-
 pub fn end_text(s: State) -> State
     ensures { λ r. ⌜ stateOf r ≡ through textEnd (stateOf s) ⌝ }
 {
-    end(s, TEXT_END)
+    let mut t = s;
+    let mut n: u64 = 0;
+    while n < 256 {
+        let x = leading_one(n);
+        let c = controls_at(TEXT_END + n);
+        let ca = c.ca;
+        let cb = c.cb;
+        let m = together(t, x, false, ca, cb, 32);
+        let next = m.state;
+        t = next;
+        n += 32;
+    }
+    t
 }
 
 // Final, of the state before it: the tag is written to out, where out has room for it; else nothing is done.

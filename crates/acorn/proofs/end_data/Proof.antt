@@ -1,15 +1,80 @@
--- `acorn::end_data` meets its contract.
-use mathlib.Core.Logic.{inl}
-use mathlib.Core.Path.{refl}
+-- `acorn::end_data` meets its contract. The invariant: n steps of the end, a multiple of 32, are run.
+use mathlib.Core.Path.{_≡_, _∙_}
+use mathlib.Core.Bool.{true}
+use Prim.Native.Nat.{_≤_, _-_, _%_}
+use native.Mathlib.Omega.{arith}
 use borrow.Author.Needs.{needs}
+use Rattle.acorn_model.specs.Step.{run}
+use Rattle.acorn_model.specs.Stretches.{inputs, dataEnd}
+use Rattle.acorn.specs.Together.{stateOf}
+use Rattle.acorn.specs.Table.{firstStep, rowOf}
+use Rattle.acorn.specs.declared.stretch.Stretch.the-variants.{DataEnd}
+use Rattle.acorn.proofs.StretchRuns.{state-none, state-all}
+use Rattle.acorn.proofs.ControlTable.{ca-of-row, cb-of-row}
+use Rattle.acorn.proofs.FixedRuns.{end-more}
 use Rattle.acorn.proofs.end_data.Statement.{statement}
 use Rattle.acorn.proofs.end_data.Tie as tie
 
-end-requires : tie.Need-end-requires
-end-requires c κs = inl refl
+abbrev Inv-loop : tie.InvT-loop
+Inv-loop t₀ n₀ t n = (n ≤ 256) × (n % 32 ≡ 0) × (stateOf t ≡ run (inputs dataEnd) n (stateOf t₀))
 
-returns : tie.Need-returns
-returns c = search needs
+abbrev μ-loop : tie.MeasureT-loop
+μ-loop t₀ n₀ t n = 256 - n
+
+loop-holds : tie.Need-loop-holds Inv-loop μ-loop
+loop-holds c = (omega arith, omega arith, state-none _ _)
+
+leading-one-requires : tie.Need-leading-one-requires Inv-loop μ-loop
+leading-one-requires c κs = search needs
+
+add-controls-at : tie.Need-add-controls-at Inv-loop μ-loop
+add-controls-at c = omega arith
+
+controls-at-requires : tie.Need-controls-at-requires Inv-loop μ-loop
+controls-at-requires c κs = search needs
+
+together-requires : tie.Need-together-requires Inv-loop μ-loop
+together-requires c κs = omega arith
+
+add-n : tie.Need-add-n Inv-loop μ-loop
+add-n c = omega arith
+
+loop-less : tie.Need-loop-less Inv-loop μ-loop
+loop-less c = omega arith
+
+loop-again : tie.Need-loop-again Inv-loop μ-loop
+unfolding firstStep rowOf
+loop-again c =
+    let controlled = c .before .before in
+    let worded = controlled .before in
+    let v = worded .before .before .loop in
+    let S = stateOf (worded .before .before .before .args .s) in
+    let word = worded .leading-one in
+    let controls = controlled .controls-at in
+    let run = c .before .together in (
+      omega arith,
+      omega arith,
+      end-more true S (stateOf (v .t)) (stateOf (run .result .state)) (v .n) (word .result) (run .result .ks) (controls .result .ca) (controls .result .cb) (omega arith) (v .inv .1)
+          (controls .ensures .caIs ∙ ca-of-row (v .n) DataEnd (omega arith)) (controls .ensures .cbIs ∙ cb-of-row (v .n) DataEnd (omega arith)) (v .inv .2) (word .ensures) (run .ensures),
+    )
+
+returns : tie.Need-returns Inv-loop μ-loop
+returns c =
+    let v = c .before .loop in
+    state-all dataEnd (stateOf (c .before .before .args .s)) (stateOf (v .t)) (v .n) (omega arith) (v .inv .2)
 
 pub end-data-spec : {M : Type 1} → statement M
-end-data-spec = tie.close (tie.spec end-requires returns)
+end-data-spec =
+    tie.close
+    (tie.spec
+    Inv-loop
+    μ-loop
+    loop-holds
+    leading-one-requires
+    add-controls-at
+    controls-at-requires
+    together-requires
+    add-n
+    loop-less
+    loop-again
+    returns)
