@@ -14,6 +14,8 @@ uint64_t bench_check(const uint8_t *key, size_t keylen, const uint8_t *nonce, si
     const uint8_t *tag, size_t taglen);
 uint64_t bench_pieces(const uint8_t *key, size_t keylen, const uint8_t *nonce, size_t noncelen, const uint8_t *text, size_t textlen,
     size_t each, uint8_t *out, size_t outlen, uint8_t *tag, size_t taglen);
+uint64_t bench_write_tape(const uint8_t *key, size_t keylen, uint32_t tickets, uint8_t *out, size_t outlen);
+uint64_t bench_open_tape(const uint8_t *key, size_t keylen, const uint8_t *tape, size_t tapelen, uint8_t *out, size_t outlen);
 
 enum { MOST = 65536, TAG = 16, ROUNDS = 21 };
 static uint8_t key[16], nonce[16], text[MOST], ours[MOST + TAG], theirs[MOST + TAG], plain[MOST + TAG], tag[TAG];
@@ -91,5 +93,11 @@ int main(void)
     TIMED(b, 10, peer_pieces(65000, 13));
     TIMED(a, 10, bench_pieces(key, 16, nonce, 16, text, 65000, 13, ours, sizeof ours, tag, TAG));
     row("5,000 pieces of 13 bytes", 65000, a, b);
+    TIMED(a, 10, bench_write_tape(key, 16, 5000, ours, sizeof ours));
+    row("tape of 5,000 adds", 65000, a, b);
+    opt_crypto_aead_encrypt(theirs, &len, text, 65000, text, 9, 0, nonce, key);
+    TIMED(b, 10, opt_crypto_aead_decrypt(plain, &len, 0, theirs, 65000 + TAG, text, 9, nonce, key));
+    TIMED(a, 10, bench_open_tape(key, 16, ours, 65025, plain, sizeof plain));
+    row("open that tape", 65000, a, b);
     return 0;
 }

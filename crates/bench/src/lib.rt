@@ -3,6 +3,10 @@ use acorn_model::Answer;
 use acorn_model::Kind;
 use acorn_model::Written;
 use session::Session;
+use tape::Writer;
+use tape_model::Head;
+use tape_model::OpenedTape;
+use tape_model::Ticket;
 
 fn bytes_of(answer: Written) -> usize {
     match answer {
@@ -78,4 +82,53 @@ pub extern "C" fn bench_pieces(
     let closed = s.seal_close(tag);
     let answer = closed.answer;
     steps_of(answer)
+}
+
+fn ticket_at(second: u32) -> Ticket {
+    Ticket {
+        form: 1,
+        truck: 5,
+        shovel: 2,
+        tip: 3,
+        grade: 4,
+        loaded: second,
+        tipped: second,
+        gross: 250000,
+        tare: 110000,
+    }
+}
+
+// A tape of so many tickets, at most 5,000.
+#[no_mangle]
+pub extern "C" fn bench_write_tape(key: &[u8], tickets: u32, out: &mut [u8]) -> u64 {
+    if 5000 < tickets || out.len() < 65025 {
+        return 0;
+    }
+    let head = Head {
+        device: 7,
+        shift: 2,
+        sheet: 1,
+    };
+    let started = Writer::fresh().start(key, head, out);
+    let mut w = started.writer;
+    let mut i: u32 = 0;
+    let mut at: usize = 9;
+    while i < tickets {
+        let reply = w.add(ticket_at(i), &mut out[at..]);
+        let next = reply.writer;
+        w = next;
+        at += 13;
+        i += 1;
+    }
+    let finished = w.finish(&mut out[at..]);
+    let answer = finished.answer;
+    steps_of(answer)
+}
+
+#[no_mangle]
+pub extern "C" fn bench_open_tape(key: &[u8], tape: &[u8], out: &mut [u8]) -> u64 {
+    match tape::open_tape(key, tape, out) {
+        OpenedTape::Refused(_) => 0,
+        OpenedTape::Done(_, net) => net,
+    }
 }
