@@ -19,17 +19,9 @@ use Rattle.tape.specs.Contracts.{textRefusal}
 use Rattle.tape.proofs.Packed.{copied}
 use Rattle.tape.proofs.Sizes.{Openable, openable, refused-with}
 
--- as many tickets unpack as are asked for
-unpacked-count : (n : ℕ) (string : List ℕ) (ts : List Ticket) → unpackTickets n string ≡ done ts → length ts ≡ n
-unfolding unpackTickets
-unpacked-count zero string ts e = let z : [] ≡ ts = cc in sym (ap length z)
-unpacked-count (suc n) string ts e =
-    by (unpackTicket (take ticketLength string)) (unpackTickets n (drop ticketLength string)) (unpacked-count n (drop ticketLength string)) e
-  where
-    by : (a : Reply Ticket) (b : Reply (List Ticket)) → ((us : List Ticket) → b ≡ done us → length us ≡ n) → ticketThen a b ≡ done ts → length ts ≡ suc n
-    by (refused m) b h f = absurd (let z : _≡_ {A = ℕ} 0 1 = cc in omega arith)
-    by (done t) (refused m) h f = absurd (let z : _≡_ {A = ℕ} 0 1 = cc in omega arith)
-    by (done t) (done us) h f = let z : t ∷ us ≡ ts = cc in sym (ap length z) ∙ ap suc (h us refl)
+abbrev netOf : Reply Totals → ℕ
+netOf (refused n) = 0
+netOf (done k) = k .net
 
 module _ (key tape out : List ℕ) (only-text : openRefusal key tape out ≡ textRefusal key tape) where
   abbrev o : Openable key tape out
@@ -78,15 +70,15 @@ module _ (key tape out : List ℕ) (only-text : openRefusal key tape out ≡ tex
           by (done ts) f = absurd (let z : _≡_ {A = ℕ} 0 1 = cc in omega arith)
 
       pub opened-by-parts : (k : Totals) → t ≡ done k → (after : List ℕ) → after ≡ take (length piece) piece ++ drop (length piece) out
-          → openTape key tape out ≡ record { answer = t; out = after }
-      unfolding openTape resultOf unlessRefused totalsOf
+          → openTape key tape out ≡ record { answer = done (record { tickets = ticketCount tape; net = k .net }); out = after }
+      unfolding openTape resultOf unlessRefused totalsOf totalNet
       opened-by-parts k e after written = by tickets refl (sym e ∙ totals-are)
         where
-          by : (u : Reply (List Ticket)) → tickets ≡ u → done k ≡ totalsOf u → openTape key tape out ≡ record { answer = t; out = after }
+          by : (u : Reply (List Ticket)) → tickets ≡ u → done k ≡ totalsOf u
+              → openTape key tape out ≡ record { answer = done (record { tickets = ticketCount tape; net = k .net }); out = after }
           by (refused m) d f = absurd (let z : _≡_ {A = ℕ} 0 1 = cc in omega arith)
           by (done ts) d f =
               let number : openRefusal key tape out ≡ 0 = number-is ∙ ap (λ (u : Reply (List Ticket)). 8 if isRefused u else 0) d in
               rw (number, d)
-              (ap₂ (λ (a : Reply Totals) (l : List ℕ). record { answer = a; out = l })
-              (ap (λ (n : ℕ). done (record { tickets = n; net = totalNet ts })) (sym (unpacked-count (ticketCount tape) (plainBytes key tape) ts d)) ∙ sym (e ∙ f))
-              (sym (copied piece (plainBytes key tape) out after plain-is written)))
+              (ap₂ (λ (n : ℕ) (l : List ℕ). record { answer = done (record { tickets = ticketCount tape; net = n }); out = l })
+              (sym (ap netOf f)) (sym (copied piece (plainBytes key tape) out after plain-is written)))

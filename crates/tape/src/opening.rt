@@ -93,11 +93,11 @@ pub(crate) fn open_by(scratch: &mut [u8], key: &[u8], tape: &[u8], out: &mut [u8
     }
     let n = tape.len() - 25;
     let answer = ticket::totals(&scratch[..n]);
-    let OpenedTape::Done(_, _) = answer else {
+    let OpenedTape::Done(_, net) = answer else {
         return OpenedTape::Refused(8);
     };
     bytes::copy(&scratch[..n], out);
-    answer
+    OpenedTape::Done(n / 13, net)
 }
 
 pub(crate) fn zeros_512() -> [u8; 512] {

@@ -71,11 +71,11 @@ slice-aggregate-totals c =
 totals-requires : tie.Need-totals-requires
 totals-requires c κs = search needs
 
+enum-known-answer : tie.Need-enum-known-answer
+enum-known-answer c = search needs
+
 enum-told : tie.Need-enum-told
 enum-told c = search needs
-
-enum-told-2 : tie.Need-enum-told-2
-enum-told-2 c = search needs
 
 same-length-2 : tie.Need-same-length-2
 same-length-2 c = search needs
@@ -87,19 +87,19 @@ returns-2 c =
     let start = parts .before .before .before .before .before .before .before .before in
     let a = start .args in
     wrong-ticket (a .key .now) (a .tape .now) (a .out .now) (start .pre .1) _ _ (rest-is (a .key .now) (a .tape .now) (a .out .now) (start .pre .1)) (parts .decrypted .ensures .0)
-    _ _ _ (not-false _ (c .before .before .before .before .if1 .left)) (parts .decrypted .ensures .1) refl (c .before .before .totals .ensures) _ (ap openedReply (c .enum-told2 .given .1))
+    _ _ _ (not-false _ (c .before .before .before .before .if1 .left)) (parts .decrypted .ensures .1) refl (c .before .before .totals .ensures) _ (ap openedReply (c .enum-told .given .1))
 
 slice-reshare-prefix-copy : tie.Need-slice-reshare-prefix-copy
 slice-reshare-prefix-copy c = search needs
 
 slice-aggregate-copy : tie.Need-slice-aggregate-copy
 slice-aggregate-copy c =
-    let start = c .before .before .before .before .before .before .before .before .before .before .before .before .before .before .before .before in
-    let kept = c .before .before .before .before .before .before .before .before .decrypted .kept .0 in
+    let start = c .before .before .before .before .before .before .before .before .before .before .before .before .before .before .before .before .before in
+    let kept = c .before .before .before .before .before .before .before .before .before .decrypted .kept .0 in
     sym (length-take-le (length (start .args .tape .now) - emptyTapeLength) _ (omega (arith, start .pre .0)))
 
 copy-requires : tie.Need-copy-requires
-copy-requires c κs = let start = c .before .before .before .before .before .before .before .before .before .before .before .before .before .before .before .before .before in simp length-take (omega (arith, sizes start .room))
+copy-requires c κs = let start = c .before .before .before .before .before .before .before .before .before .before .before .before .before .before .before .before .before .before in simp length-take (omega (arith, sizes start .room))
 
 same-length-3 : tie.Need-same-length-3
 same-length-3 c = search needs
@@ -110,11 +110,11 @@ same-length-4 c = search needs
 returns-3 : tie.Need-returns-3
 unfolding openedReply
 returns-3 c =
-    let parts = c .before .before .before .before .before .before .before .before .before .before .before .before in
+    let parts = c .before .before .before .before .before .before .before .before .before .before .before .before .before in
     let start = parts .before .before .before .before .before .before .before .before in
     let a = start .args in
     opened-by-parts (a .key .now) (a .tape .now) (a .out .now) (start .pre .1) _ _ (rest-is (a .key .now) (a .tape .now) (a .out .now) (start .pre .1)) (parts .decrypted .ensures .0)
-    _ _ _ (not-false _ (c .before .before .before .before .before .before .before .before .before .if1 .left)) (parts .decrypted .ensures .1) refl (c .before .before .before .before .before .before .before .totals .ensures) _ (ap openedReply (c .before .before .before .before .before .enum-told .given .1)) _ (c .before .before .copy .ensures .1)
+    _ _ _ (not-false _ (c .before .before .before .before .before .before .before .before .before .before .if1 .left)) (parts .decrypted .ensures .1) refl (c .before .before .before .before .before .before .before .before .totals .ensures) _ (ap openedReply (c .before .before .before .before .before .before .answer .given .1)) _ (c .before .before .copy .ensures .1)
 
 pub open-by-spec : {M : Type 1} → statement M
 open-by-spec =
@@ -131,8 +131,8 @@ open-by-spec =
     slice-reshare-prefix-totals
     slice-aggregate-totals
     totals-requires
+    enum-known-answer
     enum-told
-    enum-told-2
     same-length-2
     returns-2
     slice-reshare-prefix-copy
