@@ -8,6 +8,7 @@ use acorn::seal_text;
 use acorn::start;
 use acorn::write_tag;
 use acorn_model::Written;
+use compare::same_bytes;
 ghost use mathlib.Core.Path.{_≡_};
 ghost use Prim.Native.Nat.{_+_, _≤_};
 ghost use lib.ListN.{length};
@@ -80,18 +81,11 @@ pub fn seal(key: &[u8], nonce: &[u8], data: &[u8], text: &[u8], out: &mut [u8]) 
     Written::Done(written)
 }
 
-// Whether a tag is the one given. All 16 bytes are compared, wherever the first differs.
+// Whether a tag is the one given. All its bytes are compared, wherever the first differs.
 fn same_tag(tag: [u8; 16], given: &[u8]) -> bool
-    requires { ⌜ length (now given) ≡ 16 ⌝ }
     ensures { λ r. ⌜ r ≡ sameBytes (now (given .entry)) tag ⌝ }
 {
-    let mut differing: u8 = 0;
-    let mut i = 0;
-    while i < 16 {
-        differing |= given[i] ^ tag[i];
-        i += 1;
-    }
-    differing == 0
+    same_bytes(given, &tag)
 }
 
 // The opening of a message that only a differing tag can send back. Its text is decrypted into the scratch.

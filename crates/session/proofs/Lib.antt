@@ -1,4 +1,3 @@
 pub mod Wrapping
-pub mod Compared
 pub mod NextSession
 pub mod Replies

@@ -8,7 +8,7 @@ use acorn::end_data;
 use acorn::end_text;
 use acorn::start;
 use acorn::tag;
-use session::compare::same_bytes;
+use compare::same_bytes;
 use tape_model::OpenedTape;
 use tape_model::UnpackedHead;
 ghost use mathlib.Core.Path.{_≡_};

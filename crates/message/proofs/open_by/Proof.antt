@@ -47,11 +47,7 @@ part-same-tag-end : tie.Need-part-same-tag-end
 part-same-tag-end c = search needs
 
 same-tag-requires : tie.Need-same-tag-requires
-same-tag-requires c κs =
-    let start = c .before .before .before .before .before .before .before .before .before .before .before .before .before .before .before in
-    let a = start .args in
-    let o = openable (a .key .now) (a .nonce .now) (a .«data» .now) (a .sealed .now) (a .out .now) (start .pre .1) in
-    simp (length-take, length-drop) (omega (arith, o .tag-there))
+same-tag-requires c κs = search needs
 
 slice-reshare-prefix-copy : tie.Need-slice-reshare-prefix-copy
 slice-reshare-prefix-copy c = search needs

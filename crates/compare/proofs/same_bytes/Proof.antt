@@ -6,9 +6,9 @@ use native.Mathlib.Omega.{arith}
 use lib.Dec.{eqb}
 use lib.ListN.{length, drop}
 use Rattle.acorn_model.specs.Calls.{sameBytes}
-use Rattle.session.proofs.Compared.{other-length, compare-more, compare-all}
-use Rattle.session.proofs.compare.same_bytes.Statement.{statement}
-use Rattle.session.proofs.compare.same_bytes.Tie as tie
+use Rattle.compare.proofs.Compared.{other-length, compare-more, compare-all}
+use Rattle.compare.proofs.same_bytes.Statement.{statement}
+use Rattle.compare.proofs.same_bytes.Tie as tie
 
 abbrev Inv-loop : tie.InvT-loop
 Inv-loop a b difference₀ i₀ difference i =
