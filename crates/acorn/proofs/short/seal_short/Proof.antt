@@ -1,0 +1,180 @@
+-- `acorn::short::seal_short` meets its contract. The invariant: i bytes of the piece, a multiple of 4, are run and written.
+use mathlib.Core.Path.{_≡_, refl, _∙_}
+use mathlib.Core.Bool.{false}
+use Prim.Native.Nat.{_≤_, _-_, _%_}
+use native.Mathlib.Omega.{arith}
+use lib.ListN.{length}
+use Rattle.acorn.specs.Together.{stateOf}
+use Rattle.acorn.proofs.StretchRuns.{TextUpTo, text-none, text-further, text-last, text-all, text-refused}
+use Rattle.acorn.proofs.short.seal_short.Statement.{statement}
+use Rattle.acorn.proofs.short.seal_short.Tie as tie
+
+abbrev Inv-loop : tie.InvT-loop
+Inv-loop piece out₀ t₀ i₀ whole out t i =
+    (whole ≡ length piece - length piece % 4) × (i % 4 ≡ 0) × (i ≤ whole) × (length out ≡ length out₀) × TextUpTo false (stateOf t₀) piece out₀ i (stateOf t) out
+
+abbrev μ-loop : tie.MeasureT-loop
+μ-loop piece out₀ t₀ i₀ whole out t i = whole - i
+
+returns : tie.Need-returns Inv-loop μ-loop
+returns c = let a = c .before .before .before .args in text-refused false (stateOf (a .s)) (a .piece .now) (a .out .now) (omega arith)
+
+sub-whole : tie.Need-sub-whole Inv-loop μ-loop
+sub-whole c = omega arith
+
+loop-holds : tie.Need-loop-holds Inv-loop μ-loop
+loop-holds c = (refl, omega arith, omega arith, refl, text-none _ _ _ _)
+
+load-word-requires : tie.Need-load-word-requires Inv-loop μ-loop
+load-word-requires c κs = omega arith
+
+together-requires : tie.Need-together-requires Inv-loop μ-loop
+together-requires c κs = omega arith
+
+store-word-requires : tie.Need-store-word-requires Inv-loop μ-loop
+store-word-requires c κs = omega arith
+
+add-i : tie.Need-add-i Inv-loop μ-loop
+add-i c = omega arith
+
+loop-less : tie.Need-loop-less Inv-loop μ-loop
+loop-less c = omega arith
+
+loop-again : tie.Need-loop-again Inv-loop μ-loop
+loop-again c =
+    let stored = c .before .before .before in
+    let stepped = stored .before .before .before in
+    let loaded = stepped .before in
+    let v = loaded .before .before .loop in
+    let a = loaded .before .before .before .before .before .before .args in
+    let word = loaded .load-word in
+    let run = stepped .together in
+    let store = stored .store-word in (
+      v .inv .0,
+      omega arith,
+      omega arith,
+      store .kept .0 ∙ v .inv .3,
+      text-further false (stateOf (a .s)) (a .piece .now) (a .out .now) (v .i) 4 (word .result) (run .result .ks) (stateOf (v .t)) (stateOf (run .result .state)) (v .out) (store .last .0)
+          (omega arith) (v .inv .4) (word .ensures) (run .ensures) (store .ensures),
+    )
+
+sub-k : tie.Need-sub-k Inv-loop μ-loop
+sub-k c = omega arith
+
+load-rest-requires : tie.Need-load-rest-requires Inv-loop μ-loop
+load-rest-requires c κs = omega arith
+
+together-requires-2 : tie.Need-together-requires-2 Inv-loop μ-loop
+together-requires-2 c κs = omega arith
+
+store-rest-requires : tie.Need-store-rest-requires Inv-loop μ-loop
+store-rest-requires c κs = omega arith
+
+same-length : tie.Need-same-length Inv-loop μ-loop
+same-length c = let stored = c .before .before .before in stored .store-rest .kept .0 ∙ stored .before .before .before .before .before .before .before .loop .inv .3
+
+returns-2 : tie.Need-returns-2 Inv-loop μ-loop
+returns-2 c =
+    let stored = c .before .before .before in
+    let stepped = stored .before .before .before in
+    let loaded = stepped .before in
+    let v = loaded .before .before .before .loop in
+    let a = loaded .before .before .before .before .before .before .before .args in
+    let word = loaded .load-rest in
+    let run = stepped .together2 in
+    let store = stored .store-rest in
+    text-last false (stateOf (a .s)) (a .piece .now) (a .out .now) (v .i) 1 (word .result) (run .result .ks) (stateOf (v .t)) (stateOf (run .result .state)) (v .out) (store .last .0)
+    (omega arith) (omega arith) (omega arith) (v .inv .4) (word .ensures) (run .ensures) (store .ensures)
+
+load-rest-requires-2 : tie.Need-load-rest-requires-2 Inv-loop μ-loop
+load-rest-requires-2 c κs = omega arith
+
+together-requires-3 : tie.Need-together-requires-3 Inv-loop μ-loop
+together-requires-3 c κs = omega arith
+
+store-rest-requires-2 : tie.Need-store-rest-requires-2 Inv-loop μ-loop
+store-rest-requires-2 c κs = omega arith
+
+same-length-2 : tie.Need-same-length-2 Inv-loop μ-loop
+same-length-2 c = let stored = c .before .before .before in stored .store-rest2 .kept .0 ∙ stored .before .before .before .before .before .before .before .before .loop .inv .3
+
+returns-3 : tie.Need-returns-3 Inv-loop μ-loop
+returns-3 c =
+    let stored = c .before .before .before in
+    let stepped = stored .before .before .before in
+    let loaded = stepped .before in
+    let v = loaded .before .before .before .before .loop in
+    let a = loaded .before .before .before .before .before .before .before .before .args in
+    let word = loaded .load-rest2 in
+    let run = stepped .together3 in
+    let store = stored .store-rest2 in
+    text-last false (stateOf (a .s)) (a .piece .now) (a .out .now) (v .i) 2 (word .result) (run .result .ks) (stateOf (v .t)) (stateOf (run .result .state)) (v .out) (store .last .0)
+    (omega arith) (omega arith) (omega (arith, loaded .before .before .before .before .before .if1 .left)) (v .inv .4) (word .ensures) (run .ensures) (store .ensures)
+
+load-rest-requires-3 : tie.Need-load-rest-requires-3 Inv-loop μ-loop
+load-rest-requires-3 c κs = omega arith
+
+together-requires-4 : tie.Need-together-requires-4 Inv-loop μ-loop
+together-requires-4 c κs = omega arith
+
+store-rest-requires-3 : tie.Need-store-rest-requires-3 Inv-loop μ-loop
+store-rest-requires-3 c κs = omega arith
+
+same-length-3 : tie.Need-same-length-3 Inv-loop μ-loop
+same-length-3 c = let stored = c .before .before .before in stored .store-rest3 .kept .0 ∙ stored .before .before .before .before .before .before .before .before .before .loop .inv .3
+
+returns-4 : tie.Need-returns-4 Inv-loop μ-loop
+returns-4 c =
+    let stored = c .before .before .before in
+    let stepped = stored .before .before .before in
+    let loaded = stepped .before in
+    let v = loaded .before .before .before .before .before .loop in
+    let a = loaded .before .before .before .before .before .before .before .before .before .args in
+    let word = loaded .load-rest3 in
+    let run = stepped .together4 in
+    let store = stored .store-rest3 in
+    text-last false (stateOf (a .s)) (a .piece .now) (a .out .now) (v .i) 3 (word .result) (run .result .ks) (stateOf (v .t)) (stateOf (run .result .state)) (v .out) (store .last .0)
+    (omega arith) (omega arith) (omega (arith, loaded .before .before .before .before .before .before .if1 .left)) (v .inv .4) (word .ensures) (run .ensures) (store .ensures)
+
+same-length-4 : tie.Need-same-length-4 Inv-loop μ-loop
+same-length-4 c = c .before .before .before .before .loop .inv .3
+
+returns-5 : tie.Need-returns-5 Inv-loop μ-loop
+returns-5 c =
+    let v = c .before .before .before .before .loop in
+    let a = c .before .before .before .before .before .before .before .before .args in
+    text-all false (stateOf (a .s)) (a .piece .now) (a .out .now) (v .i) (stateOf (v .t)) (v .out) (omega arith) (omega arith) (v .inv .4)
+
+pub seal-short-spec : {M : Type 1} → statement M
+seal-short-spec =
+    tie.close
+    (tie.spec
+    Inv-loop
+    μ-loop
+    returns
+    sub-whole
+    loop-holds
+    load-word-requires
+    together-requires
+    store-word-requires
+    add-i
+    loop-less
+    loop-again
+    sub-k
+    load-rest-requires
+    together-requires-2
+    store-rest-requires
+    same-length
+    returns-2
+    load-rest-requires-2
+    together-requires-3
+    store-rest-requires-2
+    same-length-2
+    returns-3
+    load-rest-requires-3
+    together-requires-4
+    store-rest-requires-3
+    same-length-3
+    returns-4
+    same-length-4
+    returns-5)
