@@ -1,20 +1,20 @@
 -- Opening a tape from its parts: whether the tag matches, the decrypted text and its totals, and the text copied.
 use mathlib.Core.Path.{_≡_, refl, sym, ap, ap₂, _∙_}
 use mathlib.Core.Bool.{Bool, true, false}
-use mathlib.Core.List.{List, [], _∷_, _++_}
-use Prim.Native.Nat.{ℕ, zero, suc, _-_, _/_}
+use mathlib.Core.List.{List, _++_}
+use Prim.Native.Nat.{ℕ, _-_}
 use native.Mathlib.Omega.{arith}
 use lib.ListN.{length, take, drop, length-drop}
 use lib.Seq.{take-all}
 use borrow.Author.Tests.{eq-eqb, le-leb}
 use Rattle.acorn_model.specs.Bits.{_if_else_}
 use Rattle.acorn_model.specs.Stretches.{tagLength}
-use Rattle.acorn_model.specs.Calls.{Reply, refused, done, unlessRefused, writtenOver}
-use Rattle.acorn_model.specs.Message.{Result, resultOf, tagMatches, opened}
+use Rattle.acorn_model.specs.Calls.{Reply, refused, done, unlessRefused}
+use Rattle.acorn_model.specs.Message.{resultOf, tagMatches, opened}
 use Rattle.acorn_model.proofs.Messages.{opened-length}
 use Rattle.tape_model.specs.declared.Ticket.{Ticket}
-use Rattle.tape_model.specs.Ticket.{ticketLength, headLength, unpackTicket}
-use Rattle.tape_model.specs.Tape.{nonceOf, ticketsLength, ticketThen, unpackTickets, isRefused, ticketsIn, totalNet, Totals, totalsOf, plainTotals, emptyTapeLength, headBytes, sealedBytes, ticketCount, plainBytes, openRefusal, openTape}
+use Rattle.tape_model.specs.Ticket.{headLength}
+use Rattle.tape_model.specs.Tape.{nonceOf, ticketsLength, unpackTickets, isRefused, totalNet, Totals, totalsOf, plainTotals, emptyTapeLength, headBytes, sealedBytes, ticketCount, plainBytes, openRefusal, openTape}
 use Rattle.tape.specs.Contracts.{textRefusal}
 use Rattle.tape.proofs.Packed.{copied}
 use Rattle.tape.proofs.Sizes.{Openable, openable, refused-with}

@@ -7,7 +7,7 @@ use native.Mathlib.Omega.{arith}
 use lib.ListN.{length, take, drop, replicate}
 use lib.Seq.{take-all}
 use Rattle.acorn_model.specs.Bits.{_if_else_}
-use Rattle.acorn_model.specs.Calls.{Reply, refused, done, accepted, unlessRefused, writtenOver}
+use Rattle.acorn_model.specs.Calls.{Reply, refused, done, unlessRefused, writtenOver}
 use Rattle.acorn_model.specs.Message.{Result, resultOf}
 use Rattle.tape_model.specs.declared.Ticket.{Ticket}
 use Rattle.tape_model.specs.declared.Head.{Head}

@@ -1,8 +1,8 @@
 -- What a writer's call comes to, from its refusal number and the session's replies.
-use mathlib.Core.Path.{_≡_, refl, sym, ap, ap₂, _∙_}
+use mathlib.Core.Path.{_≡_, refl, sym, ap, _∙_}
 use mathlib.Core.Bool.{Bool, true, false, not}
 use mathlib.Core.List.{List, []}
-use Prim.Native.Nat.{ℕ, zero, suc, _+_, _<_, _^_}
+use Prim.Native.Nat.{ℕ, zero, suc, _<_, _^_}
 use native.Mathlib.Omega.{arith}
 use Rattle.acorn_model.specs.declared.Answer.the-variants.{Refused, Done}
 use Rattle.acorn_model.specs.Bits.{_if_else_}
@@ -18,7 +18,7 @@ use Rattle.tape_model.specs.Tape.{nonceOf}
 use Rattle.session.specs.declared.Session.{Session}
 use Rattle.session.specs.declared.Reply.{Reply as SessionReply}
 use Rattle.session.specs.Contracts as session
-use Rattle.session.specs.Contracts.{machineOf, wrapped, wrappedMachine, wrappedReply, wrappedOutcome, Called}
+use Rattle.session.specs.Contracts.{machineOf, wrappedMachine, wrappedReply, wrappedOutcome, Called}
 use Rattle.session.proofs.Wrapping.{within, called-wrapped}
 use Rattle.tape.specs.declared.Writer.{Writer}
 use Rattle.tape.specs.Contracts.{writerOf, outcomeOf, wrappedWriter, wrappedWriterOutcome, WriterCalled, unlessBegun, headTaken}

@@ -1,18 +1,9 @@
 -- `begin_with_head` begins, and then takes the head as data.
-use mathlib.Core.Path.{_≡_, ap, subst}
-use mathlib.Core.List.{List, []}
-use Prim.Native.Nat.{ℕ}
 use borrow.Author.Needs.{needs}
 use Rattle.acorn_model.specs.Machine.{begin}
-use Rattle.session.specs.Contracts.{Called}
 use Rattle.tape.proofs.WriterCalls.{not-begun, then-fed}
 use Rattle.tape.proofs.begin_with_head.Statement.{statement}
 use Rattle.tape.proofs.begin_with_head.Tie as tie
-use Rattle.tape.proofs.begin_with_head.Reads as reads
-use Rattle.tape.proofs.begin_with_head.Lts as lts
-use Rattle.session.proofs.Session.begin.Reads as begin-reads
-use Rattle.session.proofs.Session.data.Reads as data-reads
-use Rattle.tape.proofs.nonce_of.Reads as nonce-of-reads
 
 nonce-of-requires : tie.Need-nonce-of-requires
 nonce-of-requires c κs = search needs

@@ -6,13 +6,6 @@ use Rattle.tape.proofs.Sizes.{sent-back, let-through, openable, text-le
 use borrow.Author.Needs.{needs}
 use Rattle.tape.proofs.open_tape.Statement.{statement}
 use Rattle.tape.proofs.open_tape.Tie as tie
-use Rattle.tape.proofs.open_tape.Reads as reads
-use Rattle.tape.proofs.open_tape.Lts as lts
-use Rattle.tape.proofs.opening.open_by.Reads as open-by-reads
-use Rattle.tape.proofs.opening.open_refusal.Reads as open-refusal-reads
-use Rattle.tape.proofs.opening.zeros_512.Reads as zeros-512-reads
-use Rattle.tape.proofs.opening.zeros_65536.Reads as zeros-65536-reads
-use Rattle.tape.proofs.opening.zeros_8192.Reads as zeros-8192-reads
 
 open-refusal-requires : tie.Need-open-refusal-requires
 open-refusal-requires c κs = search needs

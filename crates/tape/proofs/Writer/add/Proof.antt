@@ -13,13 +13,6 @@ use Rattle.tape.proofs.Packed.{ticket-met, ticket-packed}
 use Rattle.tape.proofs.WriterCalls.{Passes, passes, refuses, accepts, passed, text-stopped}
 use Rattle.tape.proofs.Writer.add.Statement.{statement}
 use Rattle.tape.proofs.Writer.add.Tie as tie
-use Rattle.tape.proofs.Writer.add.Reads as reads
-use Rattle.tape.proofs.Writer.add.Lts as lts
-use Rattle.session.proofs.Session.seal_text.Reads as seal-text-reads
-use Rattle.tape.proofs.refusal.is_done.Reads as is-done-reads
-use Rattle.tape.proofs.refusal.is_open.Reads as is-open-reads
-use Rattle.tape.proofs.refusal.number.Reads as number-reads
-use Rattle.ticket.proofs.packed.Reads as packed-reads
 
 number-is : (c : tie.After-number) → let a = c .before .before .before .before .before .args in c .number .result ≡ refusal (writerOf (a .self)) (add (a .ticket) (a .out .now))
 unfolding writerOf phaseAllows keyRight headRight ticketRight tapeFull outputShort

@@ -8,11 +8,6 @@ use Rattle.tape.specs.Contracts.{writerOf}
 use Rattle.tape.proofs.WriterCalls.{refuses, accepts, passed, close-stopped}
 use Rattle.tape.proofs.Writer.finish.Statement.{statement}
 use Rattle.tape.proofs.Writer.finish.Tie as tie
-use Rattle.tape.proofs.Writer.finish.Reads as reads
-use Rattle.tape.proofs.Writer.finish.Lts as lts
-use Rattle.session.proofs.Session.seal_close.Reads as seal-close-reads
-use Rattle.tape.proofs.refusal.is_open.Reads as is-open-reads
-use Rattle.tape.proofs.refusal.number.Reads as number-reads
 
 number-is : (c : tie.After-number) → let a = c .before .before .before .args in c .number .result ≡ refusal (writerOf (a .self)) (finish (a .out .now))
 unfolding writerOf phaseAllows keyRight headRight ticketRight tapeFull outputShort

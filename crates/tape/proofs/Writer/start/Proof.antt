@@ -12,14 +12,6 @@ use Rattle.tape.proofs.Packed.{copied}
 use Rattle.tape.proofs.WriterCalls.{Passes, passes, refuses, accepts, not-started, head-written}
 use Rattle.tape.proofs.Writer.start.Statement.{statement}
 use Rattle.tape.proofs.Writer.start.Tie as tie
-use Rattle.tape.proofs.Writer.start.Reads as reads
-use Rattle.tape.proofs.Writer.start.Lts as lts
-use Rattle.bytes.proofs.copy.Reads as copy-reads
-use Rattle.tape.proofs.begin_with_head.Reads as begin-with-head-reads
-use Rattle.tape.proofs.head_bytes.Reads as head-bytes-reads
-use Rattle.tape.proofs.refusal.is_fresh.Reads as is-fresh-reads
-use Rattle.tape.proofs.refusal.number.Reads as number-reads
-use Rattle.ticket.proofs.head_valid.Reads as head-valid-reads
 
 number-is : (c : tie.After-number) → let a = c .before .before .before .before .before .args in
     c .number .result ≡ refusal (writerOf (a .self)) (start (a .key .now) (a .head) (a .out .now))

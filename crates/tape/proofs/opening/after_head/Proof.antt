@@ -7,12 +7,6 @@ use Rattle.tape.proofs.Decrypting.{nonce-size}
 use borrow.Author.Needs.{needs}
 use Rattle.tape.proofs.opening.after_head.Statement.{statement}
 use Rattle.tape.proofs.opening.after_head.Tie as tie
-use Rattle.tape.proofs.opening.after_head.Reads as reads
-use Rattle.tape.proofs.opening.after_head.Lts as lts
-use Rattle.acorn.proofs.absorb_data.Reads as absorb-data-reads
-use Rattle.acorn.proofs.end_data.Reads as end-data-reads
-use Rattle.acorn.proofs.start.Reads as start-reads
-use Rattle.tape.proofs.nonce_of.Reads as nonce-of-reads
 
 nonce-of-requires : tie.Need-nonce-of-requires
 nonce-of-requires c κs = search needs

@@ -10,13 +10,6 @@ use Rattle.tape.proofs.Decrypting.{tag-compared, text-decrypted}
 use borrow.Author.Needs.{needs}
 use Rattle.tape.proofs.opening.decrypted.Statement.{statement}
 use Rattle.tape.proofs.opening.decrypted.Tie as tie
-use Rattle.tape.proofs.opening.decrypted.Reads as reads
-use Rattle.tape.proofs.opening.decrypted.Lts as lts
-use Rattle.acorn.proofs.decrypt.Reads as decrypt-reads
-use Rattle.acorn.proofs.end_text.Reads as end-text-reads
-use Rattle.acorn.proofs.tag.Reads as tag-reads
-use Rattle.compare.proofs.same_bytes.Reads as same-bytes-reads
-use Rattle.tape.proofs.opening.after_head.Reads as after-head-reads
 
 sub-n : tie.Need-sub-n
 sub-n c = search needs

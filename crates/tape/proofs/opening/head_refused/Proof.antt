@@ -5,9 +5,6 @@ use Rattle.tape_model.specs.Tape.{isRefused}
 use borrow.Author.Needs.{needs}
 use Rattle.tape.proofs.opening.head_refused.Statement.{statement}
 use Rattle.tape.proofs.opening.head_refused.Tie as tie
-use Rattle.tape.proofs.opening.head_refused.Reads as reads
-use Rattle.tape.proofs.opening.head_refused.Lts as lts
-use Rattle.ticket.proofs.unpack_head.Reads as unpack-head-reads
 
 unpack-head-requires : tie.Need-unpack-head-requires
 unpack-head-requires c κs = search needs

@@ -1,5 +1,5 @@
 -- `open_by` opens as the tag and the tickets decide.
-use mathlib.Core.Path.{refl, sym, ap, _∙_}
+use mathlib.Core.Path.{refl, sym, ap}
 use Prim.Native.Nat.{_-_}
 use native.Mathlib.Omega.{arith}
 use lib.ListN.{length, length-take, length-drop}
@@ -12,11 +12,6 @@ use Rattle.tape.proofs.OpenedParts.{rest-is, wrong-tag, wrong-ticket, o
 use borrow.Author.Needs.{needs}
 use Rattle.tape.proofs.opening.open_by.Statement.{statement}
 use Rattle.tape.proofs.opening.open_by.Tie as tie
-use Rattle.tape.proofs.opening.open_by.Reads as reads
-use Rattle.tape.proofs.opening.open_by.Lts as lts
-use Rattle.bytes.proofs.copy.Reads as copy-reads
-use Rattle.tape.proofs.opening.decrypted.Reads as decrypted-reads
-use Rattle.ticket.proofs.totals.Reads as totals-reads
 
 sizes : (c : tie.Start) → Openable (c .args .key .now) (c .args .tape .now) (c .args .out .now)
 sizes c = openable (c .args .key .now) (c .args .tape .now) (c .args .out .now) (c .pre .1)

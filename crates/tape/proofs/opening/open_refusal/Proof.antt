@@ -13,10 +13,6 @@ use Rattle.tape.proofs.Sizes.{TapeSize, sizes-told, text-length}
 use borrow.Author.Needs.{needs}
 use Rattle.tape.proofs.opening.open_refusal.Statement.{statement}
 use Rattle.tape.proofs.opening.open_refusal.Tie as tie
-use Rattle.tape.proofs.opening.open_refusal.Reads as reads
-use Rattle.tape.proofs.opening.open_refusal.Lts as lts
-use Rattle.tape.proofs.opening.head_refused.Reads as head-refused-reads
-use Rattle.tape.proofs.opening.tape_length.Reads as tape-length-reads
 
 tape-size : (c : tie.Else1) → TapeSize (length (c .before .before .before .before .before .args .tape .now))
 tape-size c =

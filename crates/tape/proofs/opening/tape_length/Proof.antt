@@ -4,8 +4,6 @@ use native.Mathlib.Omega.{arith}
 use Rattle.tape_model.specs.Tape.{emptyTapeLength, ticketsLength, tapeLength}
 use Rattle.tape.proofs.opening.tape_length.Statement.{statement}
 use Rattle.tape.proofs.opening.tape_length.Tie as tie
-use Rattle.tape.proofs.opening.tape_length.Reads as reads
-use Rattle.tape.proofs.opening.tape_length.Lts as lts
 
 returns : tie.Need-returns
 unfolding tapeLength
