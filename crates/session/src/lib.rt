@@ -162,8 +162,8 @@ impl Session {
             return self.refused(number);
         }
         let held = self.state;
-        let state = phase_runs::sealed(data_ended(phase, held), piece, out);
-        let next = self.text_taken(piece, state);
+        let sealed = acorn::seal_text(data_ended(phase, held), piece, out);
+        let next = self.text_taken(piece, sealed);
         next.done(piece.len())
     }
 

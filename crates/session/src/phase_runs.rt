@@ -4,14 +4,11 @@ use acorn::State;
 use acorn::check_text;
 use acorn::end_data;
 use acorn::end_text;
-use acorn::seal_text;
-use acorn::short::seal_short;
 use acorn_model::Phase;
 ghost use mathlib.Core.Path.{_≡_};
-ghost use mathlib.Core.Bool.{true, false};
+ghost use mathlib.Core.Bool.{true};
 ghost use Rattle.acorn_model.specs.Stretches.{through, textPiece, textEnd};
 ghost use Rattle.acorn.specs.Together.{stateOf};
-ghost use Rattle.acorn.specs.Runs.{TextRun};
 ghost use Rattle.session.specs.Contracts.{endedState, endedSteps};
 
 pub(crate) fn data_ended(phase: Phase, state: State) -> State
@@ -29,17 +26,6 @@ pub(crate) fn data_end_steps(phase: Phase) -> u64
     ensures { λ r. ⌜ r ≡ endedSteps phase ⌝ }
 {
     if is_data(phase) { 256 } else { 0 }
-}
-
-// A sealing session's text, which is written encrypted. A short piece has a run of its own, which is compiled into its one caller.
-pub(crate) fn sealed(state: State, piece: &[u8], out: &mut [u8]) -> State
-    ensures { λ r. ⌜ TextRun false (stateOf state) (now (piece .entry)) (now (out .entry)) (stateOf r) (now (out .exit)) ⌝ }
-{
-    if piece.len() < 64 {
-        seal_short(state, piece, out)
-    } else {
-        seal_text(state, piece, out)
-    }
 }
 
 // A checking session's text: ciphertext is given, and the text's bits enter the state.

@@ -47,8 +47,8 @@ returns c = refuses (number-is (c .before .before)) (c .before .if1 .taken) (ome
 data-ended-requires : tie.Need-data-ended-requires
 data-ended-requires c κs = search needs
 
-sealed-requires : tie.Need-sealed-requires
-sealed-requires c κs = search needs
+seal-text-requires : tie.Need-seal-text-requires
+seal-text-requires c κs = search needs
 
 text-taken-requires : tie.Need-text-taken-requires
 text-taken-requires c κs = fits (c .before .before .before .before .before .before)
@@ -63,7 +63,7 @@ returns-2 : tie.Need-returns-2
 unfolding machineOf phaseAllows outputShort work
 returns-2 c =
     let next = c .before .text-taken in
-    let text = c .before .before .before .before .sealed in
+    let text = c .before .before .before .before .seal-text in
     let ended = c .before .before .before .before .before .before .data-ended in
     let accept = c .before .before .before .before .before .before .before .before in
     let a = accept .before .before .before .before .before .before .before .args in
@@ -86,7 +86,7 @@ seal-text-spec =
     refused-requires
     returns
     data-ended-requires
-    sealed-requires
+    seal-text-requires
     text-taken-requires
     done-requires
     same-length
