@@ -135,12 +135,6 @@ module _ (opening : Bool) (S : Bits) (piece out₀ : List ℕ) where
             ∙ ap (λ (t : Bool). cond t out₀ (writtenOver (textOut opening piece S) out₀)) (sym room);
       }
 
-  -- the last bytes
-  pub text-last : (i k x z : ℕ) (T T' : Bits) (out out' : List ℕ) → k ≤ 4 → i + k ≡ length piece → length piece ≤ length out₀ → TextUpTo opening S piece out₀ i T out
-      → ((q : ℕ) → q < 8 * k → bit x q ≡ bitsIn piece (8 * i + q)) → Together T x opening true false (8 * k) T' z → out' ≡ paste out i (bytes 4 (bit (bitXor x z))) k
-      → TextRun opening S piece out₀ T' out'
-  text-last i k x z T T' out out' hk e h u loaded steps stored = text-all (i + k) T' out' e h (text-further i k x z T T' out out' hk u loaded steps stored)
-
   pub text-refused : length out₀ < length piece → TextRun opening S piece out₀ S out₀
   text-refused h =
       record {

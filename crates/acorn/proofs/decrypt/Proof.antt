@@ -1,11 +1,11 @@
 -- `acorn::decrypt` meets its contract. The invariant: i bytes of the piece, a multiple of 4, are run and written.
 use mathlib.Core.Path.{_≡_, refl, _∙_}
 use mathlib.Core.Bool.{true}
-use Prim.Native.Nat.{_≤_, _-_, _%_}
+use Prim.Native.Nat.{_≤_, _+_, _-_, _%_}
 use native.Mathlib.Omega.{arith}
 use lib.ListN.{length}
 use Rattle.acorn.specs.Together.{stateOf}
-use Rattle.acorn.proofs.StretchRuns.{TextUpTo, text-none, text-further, text-last, text-all, text-refused}
+use Rattle.acorn.proofs.StretchRuns.{TextUpTo, text-none, text-further, text-all, text-refused}
 use Rattle.acorn.proofs.decrypt.Statement.{statement}
 use Rattle.acorn.proofs.decrypt.Tie as tie
 
@@ -86,8 +86,10 @@ returns-2 c =
     let word = loaded .load-rest in
     let run = stepped .together2 in
     let store = stored .store-rest in
-    text-last true (stateOf (a .s)) (a .piece .now) (a .out .now) (v .i) (length (a .piece .now) - v .i) (word .result) (run .result .ks) (stateOf (v .t)) (stateOf (run .result .state)) (v .out) (store .last .0)
-    (omega arith) (omega arith) (omega arith) (v .inv .4) (word .ensures) (run .ensures) (store .ensures)
+    let k = length (a .piece .now) - v .i in
+    text-all true (stateOf (a .s)) (a .piece .now) (a .out .now) (v .i + k) (stateOf (run .result .state)) (store .last .0) (omega arith) (omega arith)
+    (text-further true (stateOf (a .s)) (a .piece .now) (a .out .now) (v .i) k (word .result) (run .result .ks) (stateOf (v .t)) (stateOf (run .result .state)) (v .out) (store .last .0)
+    (omega arith) (v .inv .4) (word .ensures) (run .ensures) (store .ensures))
 
 same-length-2 : tie.Need-same-length-2 Inv-loop μ-loop
 same-length-2 c = c .before .before .loop .inv .3

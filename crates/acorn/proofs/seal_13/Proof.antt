@@ -1,13 +1,13 @@
--- `acorn::short::seal_13` meets its contract. The invariant: i bytes of the piece, a multiple of 4, are run and written.
+-- `acorn::seal_13` meets its contract. The invariant: i bytes of the piece, a multiple of 4, are run and written.
 use mathlib.Core.Path.{_≡_, refl, sym, _∙_}
 use mathlib.Core.Bool.{false}
-use Prim.Native.Nat.{_≤_, _-_, _%_}
+use Prim.Native.Nat.{_≤_, _+_, _-_, _%_}
 use native.Mathlib.Omega.{arith}
 use lib.ListN.{length}
 use Rattle.acorn.specs.Together.{stateOf}
-use Rattle.acorn.proofs.StretchRuns.{TextUpTo, text-none, text-further, text-last, text-refused}
-use Rattle.acorn.proofs.short.seal_13.Statement.{statement}
-use Rattle.acorn.proofs.short.seal_13.Tie as tie
+use Rattle.acorn.proofs.StretchRuns.{TextUpTo, text-none, text-further, text-all, text-refused}
+use Rattle.acorn.proofs.seal_13.Statement.{statement}
+use Rattle.acorn.proofs.seal_13.Tie as tie
 
 abbrev Inv-loop : tie.InvT-loop
 Inv-loop piece out₀ src t₀ i₀ out t i = (length piece ≡ 13) × (i % 4 ≡ 0) × (i ≤ 12) × (length out ≡ length out₀) × TextUpTo false (stateOf t₀) piece out₀ i (stateOf t) out
@@ -76,9 +76,11 @@ returns-2 c =
     let word = loaded .load-rest in
     let run = stepped .together2 in
     let store = stored .store-rest in
+    let S = stateOf (a .s) in
     let e : v .i ≡ 12 = omega arith in
-    text-last false (stateOf (a .s)) (a .piece .now) (a .out .now) 12 1 (word .result) (run .result .ks) (stateOf (v .t)) (stateOf (run .result .state)) (v .out) (store .last .0)
-    (omega arith) (sym (v .inv .0)) (omega (arith, v .inv .0)) (rw (sym e) (v .inv .4)) (word .ensures) (run .ensures) (store .ensures)
+    text-all false S (a .piece .now) (a .out .now) 13 (stateOf (run .result .state)) (store .last .0) (sym (v .inv .0)) (omega (arith, v .inv .0))
+    (text-further false S (a .piece .now) (a .out .now) 12 1 (word .result) (run .result .ks) (stateOf (v .t)) (stateOf (run .result .state)) (v .out) (store .last .0)
+    (omega arith) (rw (sym e) (v .inv .4)) (word .ensures) (run .ensures) (store .ensures))
 
 pub seal-13-spec : {M : Type 1} → statement M
 seal-13-spec =
