@@ -64,30 +64,6 @@ pub fn seal_text(s: State, piece: &[u8], out: &mut [u8]) -> State
     t
 }
 
-// The same for 13 bytes, the size of a ticket: no step count is left to run time, and a sole caller has it in line.
-pub fn seal_13(s: State, piece: &[u8; 13], out: &mut [u8]) -> State
-    ensures { λ r. ⌜ TextRun false (stateOf s) (now (piece .entry)) (now (out .entry)) (stateOf r) (now (out .exit)) ⌝ }
-{
-    let src: &[u8] = piece;
-    if out.len() < 13 {
-        return s;
-    }
-    let mut t = s;
-    let mut i = 0;
-    while i < 12 {
-        let x = load_word(src, i);
-        let m = together(t, x, false, true, false, 32);
-        store_word(out, i, x ^ m.ks);
-        let next = m.state;
-        t = next;
-        i += 4;
-    }
-    let x = load_rest(src, 12, 1);
-    let m = together(t, x, false, true, false, 8);
-    store_rest(out, 12, 1, x ^ m.ks);
-    m.state
-}
-
 // Ciphertext is decrypted into out, where out has room for it; else nothing is done. The text's bits enter the state.
 pub fn decrypt(s: State, piece: &[u8], out: &mut [u8]) -> State
     ensures { λ r. ⌜ TextRun true (stateOf s) (now (piece .entry)) (now (out .entry)) (stateOf r) (now (out .exit)) ⌝ }
