@@ -93,14 +93,9 @@ impl Writer {
     {
         let phase = self.phase;
         let headed = ticket::head_valid(head);
-        let number = number(
-            is_fresh(phase),
-            key.len() == 16,
-            headed,
-            true,
-            false,
-            out.len() < 9,
-        );
+        let keyed = key.len() == 16;
+        let short = out.len() < 9;
+        let number = number(is_fresh(phase), keyed, headed, true, false, short);
         if number != 0 {
             return WriterReply {
                 answer: Answer::Refused(number),
@@ -137,14 +132,9 @@ impl Writer {
         let tickets = self.tickets;
         let packed = ticket::packed(ticket);
         let packing = packed.answer;
-        let number = number(
-            is_open(phase),
-            true,
-            true,
-            is_done(packing),
-            5000 <= tickets,
-            out.len() < 13,
-        );
+        let full = 5000 <= tickets;
+        let short = out.len() < 13;
+        let number = number(is_open(phase), true, true, is_done(packing), full, short);
         if number != 0 {
             return WriterReply {
                 answer: Answer::Refused(number),
