@@ -12,3 +12,4 @@ pub mod WriterAccepts
 pub mod WriterKept
 pub mod WriterValid
 pub mod WriterLists
+pub mod WriterEvery

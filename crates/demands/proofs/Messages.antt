@@ -1,16 +1,18 @@
 -- Demand 2 on whole messages, from the contracts and the laws of the definitions.
 use mathlib.Core.Path.{_≡_, refl, sym, ap, ap₂, _∙_}
+use mathlib.Core.Bool.{Bool, false, not}
 use mathlib.Core.List.{List, _++_}
 use mathlib.Core.Logic.{_↔_}
 use Prim.Native.Nat.{ℕ, _+_, _≤_}
 use lib.ListN.{length}
 use Rattle.acorn_model.specs.declared.Written.{Written}
-use Rattle.acorn_model.specs.Bits.{Bits, AreBytes, bitsIn, bytes}
+use Rattle.acorn_model.specs.Bits.{Bits, AreBytes, _if_else_, bitsIn, bytes}
 use Rattle.acorn_model.specs.Stretches.{tagLength}
 use Rattle.acorn_model.specs.Paper.{ciphertext, tag}
-use Rattle.acorn_model.specs.Calls.{Reply, done, refused, writtenReply, writtenOver}
-use Rattle.acorn_model.specs.Message.{Result, sealed, sealMessage, openMessage}
+use Rattle.acorn_model.specs.Calls.{Reply, done, refused, unlessRefused, writtenReply, writtenOver}
+use Rattle.acorn_model.specs.Message.{resultOf, sealed, tagMatches, opened, tagRefusal, openRefusal, sealMessage, openMessage}
 use Rattle.acorn_model.specs.Laws.{ByPaper, WithinLimits}
+use Rattle.acorn_model.proofs.Messages.{Openable, open-passed}
 use Rattle.acorn_model.proofs.Proved.{paper-computed, message-laws}
 use Rattle.demands.specs.Messages.{Seals, OpensTo, MessageDemand}
 
@@ -19,6 +21,13 @@ module _ (key nonce «data» : List ℕ) where
   by-paper : (text : List ℕ) (c T : Bits) → ByPaper key nonce «data» (length text) (bitsIn text) c T → bytes (length text) c ++ bytes tagLength T ≡ sealed key nonce «data» text
   unfolding sealed
   by-paper text c T p = let e = paper-computed key nonce «data» .sealing-only text c T p in ap₂ _++_ (e .0) (e .1)
+
+  -- past 2, 5 and 6, a tag that differs is answered 7
+  answered-7 : (s out : List ℕ) → openRefusal key nonce «data» s out ≡ tagRefusal key nonce «data» s → tagMatches key nonce «data» s ≡ false
+      → openMessage key nonce «data» s out .answer ≡ refused 7
+  unfolding openMessage resultOf unlessRefused
+  answered-7 s out e m =
+      ap (λ (n : ℕ). resultOf n (length (opened key nonce «data» s)) (opened key nonce «data» s) out .answer) (e ∙ ap (λ (b : Bool). 7 if not b else 0) m)
 
   pub message-demand : MessageDemand key nonce «data»
   message-demand =
@@ -34,6 +43,10 @@ module _ (key nonce «data» : List ℕ) where
               λ (b : s ≡ bytes (length text) c ++ bytes tagLength T).
                   let g = sym h ∙ e .1 (w, room, b ∙ by-paper text c T p) in (λ i. g i .answer, λ i. g i .out),
             );
+        seven = λ s out after r h k n d t l room m.
+            let o : Openable key nonce «data» s out = record { key-size = k; nonce-size = n; data-limit = d; tag-there = t; text-limit = l; room = room } in
+            let e : writtenReply r ≡ refused 7 = (λ i. sym h i .answer) ∙ answered-7 s out (open-passed key nonce «data» s out o) m in
+            (e, (λ i. sym h i .out) ∙ message-laws key nonce «data» .open-refused 7 s out ((λ i. h i .answer) ∙ e));
         sevens-alike = λ key′ nonce′ data′ s s′ out after after′ r r′ h h′ e e′. (
           (λ i. sym h i .out) ∙ message-laws key nonce «data» .open-refused 7 s out ((λ i. h i .answer) ∙ e),
           (λ i. sym h′ i .out) ∙ message-laws key′ nonce′ data′ .open-refused 7 s′ out ((λ i. h′ i .answer) ∙ e′),

@@ -1,15 +1,22 @@
 -- Demand 1, from the contracts.
 use mathlib.Core.Path.{_≡_, refl, sym, ap, _∙_}
-use mathlib.Core.Bool.{Bool, true, false}
+use mathlib.Core.Bool.{Bool, true, false, not, _&&_}
 use mathlib.Core.List.{List, []}
-use Prim.Native.Nat.{ℕ, zero, suc}
+use Prim.Native.Nat.{ℕ, zero, suc, _*_, _≤_}
 use native.Mathlib.Omega.{arith}
+use lib.Dec.{ltb, eqb}
+use lib.ListN.{length}
+use borrow.Author.Tests.{eq-eqb, le-ltb}
+use Rattle.acorn_model.specs.Bits.{_if_else_}
+use Rattle.acorn_model.specs.Stretches.{tagOf}
 use Rattle.acorn_model.specs.declared.Phase.the-variants.{Closed}
-use Rattle.acorn_model.specs.Calls.{Reply, refused, done, Work, Outcome, answerReply, unlessRefused, refusedWith}
-use Rattle.acorn_model.specs.Machine.{Machine, Call, begin, dataCall, sealText, checkText, sealClose, checkClose, outputOf, refusal, wrote, answered, verdict, closed, enter, work, call}
+use Rattle.acorn_model.specs.Calls.{Reply, refused, done, Work, Outcome, accepted, sameBytes, answerReply, unlessRefused, refusedWith}
+use Rattle.acorn_model.specs.Machine.{Machine, Call, begin, dataCall, sealText, checkText, sealClose, checkClose, outputOf, keyLength, refusal, wrote, answered, verdict, textEnded, closed, enter, work, call}
 use Rattle.acorn_model.specs.Lists.{Ended}
-use Rattle.acorn_model.specs.Message.{Result, resultOf}
-use Rattle.tape_model.specs.Tape.{Totals, openRefusal, openTape}
+use Rattle.acorn_model.specs.Message.{resultOf, tagMatches}
+use Rattle.tape_model.specs.declared.OpenedTape.{OpenedTape}
+use Rattle.tape_model.specs.Ticket.{ticketLength, unpackHead}
+use Rattle.tape_model.specs.Tape.{nonceOf, isRefused, Totals, tapeLength, headBytes, sealedBytes, ticketCount, openRefusal, openTape, openedReply}
 use Rattle.tape_model.specs.Writer.{PlainWriter, WriterCall, start, add, finish, onAnswer, passedOn, started, writerCall}
 use Rattle.tape_model.specs.Writer as plain
 use Rattle.call_lists.proofs.Refusals.{by-number, never-7}
@@ -21,7 +28,7 @@ use Rattle.tape.specs.declared.Writer.{Writer}
 use Rattle.tape.specs.declared.WriterReply.{WriterReply}
 use Rattle.tape.specs.Contracts.{writerOf, wrappedWriter, wrappedWriterOutcome, WriterCalled}
 use Rattle.tape.specs.Contracts as tape
-use Rattle.demands.specs.Refusals.{SessionRefusals, WriterRefusals, OpeningRefusals, RefusalDemand}
+use Rattle.demands.specs.Refusals.{SessionRefusals, WriterRefusals, OpensTape, OpeningRefusals, RefusalDemand}
 
 never : {A : Type 0} {a : A} {n : ℕ} {P : Type 0} → done a ≡ refused n → P
 never {a = a} {n = n} e = let z : _≡_ {A = ℕ} 0 1 = cc in absurd (omega arith)
@@ -72,6 +79,11 @@ number-call : (m : Machine) (c : Call) (n : ℕ) → refusal m c ≡ suc n → c
 unfolding call unlessRefused refusedWith
 number-call m c n e = rw e
 
+mismatch-call : (m : Machine) (c : Call) (tag : List ℕ) → c ≡ checkClose tag → refusal m c ≡ accepted → sameBytes tag (tagOf (textEnded m .state)) ≡ false → call m c .answer ≡ refused 7
+unfolding call unlessRefused
+mismatch-call m c tag e n d =
+    ap (λ (x : ℕ). unlessRefused x (work m c) (refusedWith x m (outputOf c)) .answer) n ∙ ap (λ (x : Call). work m x .answer) e ∙ (unfold work verdict in ap (λ (b : Bool). verdict b (closed m)) d)
+
 session-refusals : (s : Session) (c : Call) (r : SessionReply) (out : List ℕ) (h : Called s c r out) → SessionRefusals s c r out h
 unfolding outcomeOf wrappedOutcome wrappedReply wrappedMachine
 session-refusals s c r out h =
@@ -84,6 +96,7 @@ session-refusals s c r out h =
       unchanged = λ n small e ne.
           let u = refused-call m c n (still-refused (call m c .answer) n (sym answer ∙ e)) ne in
           (next ∙ ap wrappedMachine (u .0) ∙ within m small, left ∙ u .1);
+      mismatch = λ tag e n d. answer ∙ ap wrappedReply (mismatch-call m c tag e n d);
       seven = λ e.
           let u = seven-call m c (still-refused (call m c .answer) 7 (sym answer ∙ e)) in
           (ap (λ (x : Machine). x .phase) next ∙ u .0, left ∙ u .1);
@@ -131,21 +144,42 @@ writer-refusals w c r out h =
 
 -- ## Tapes
 
-result-refused : (k : ℕ) (a : Totals) (written out : List ℕ) (n : ℕ) → resultOf k a written out .answer ≡ refused n → resultOf k a written out ≡ record { answer = refused n; out = out }
+result-refused : (k : ℕ) (a : Totals) (written out : List ℕ) (n : ℕ) → resultOf k a written out .answer ≡ refused n → resultOf k a written out .out ≡ out
 unfolding resultOf unlessRefused
 result-refused zero a written out n e = never e
-result-refused (suc k) a written out n e = λ i. record { answer = e i; out = out }
+result-refused (suc k) a written out n e = refl
 
-opening-refused : (key tape out : List ℕ) (n : ℕ) → openTape key tape out .answer ≡ refused n → openTape key tape out ≡ record { answer = refused n; out = out }
+result-number : (k : ℕ) (a : Totals) (written out : List ℕ) (n : ℕ) → k ≡ suc n → resultOf k a written out .answer ≡ refused (suc n)
+unfolding resultOf unlessRefused
+result-number k a written out n e = rw e
+
+-- past the tests of 2, 3 and 6, a differing tag is 7
+only-7 : (a b c d : Bool) (rest : ℕ) → a ≡ true → b ≡ false → c ≡ false → d ≡ false → (2 if not a else 3 if b else 6 if c else 7 if not d else rest) ≡ 7
+only-7 a b c d rest p q r s = rw (p, q, r, s)
+
+tape-seven : (key tape out : List ℕ) → length key ≡ keyLength → tapeLength (length tape) ≡ true → isRefused (unpackHead (headBytes tape)) ≡ false
+    → ticketLength * ticketCount tape ≤ length out → tagMatches key (nonceOf (headBytes tape)) (headBytes tape) (sealedBytes tape) ≡ false → openRefusal key tape out ≡ 7
+unfolding openRefusal
+tape-seven key tape out k l h room m =
+    only-7 (eqb (length key) keyLength && tapeLength (length tape)) (isRefused (unpackHead (headBytes tape))) (ltb (length out) (ticketLength * ticketCount tape))
+    (tagMatches key (nonceOf (headBytes tape)) (headBytes tape) (sealedBytes tape)) _ (rw (eq-eqb (length key) keyLength k) l) h
+    (le-ltb (length out) (ticketLength * ticketCount tape) room) m
+
+opening-refusals : (key tape out after : List ℕ) (r : OpenedTape) (h : OpensTape key tape out r after) → OpeningRefusals key tape out after r h
 unfolding openTape
-opening-refused key tape out n e = result-refused _ _ _ out n e
-
-openings : OpeningRefusals
-openings =
+opening-refusals key tape out after r h =
     record {
-      unchanged = λ key tape out n e. ap (λ (x : Result Totals). x .out) (opening-refused key tape out n e);
-      sevens-alike = λ key key′ tape tape′ out e e′. opening-refused key tape out 7 e ∙ sym (opening-refused key′ tape′ out 7 e′);
+      number = λ n e. sym (λ i. h i .answer) ∙ result-number (openRefusal key tape out) _ _ out n e;
+      unchanged = λ n e. sym (λ i. h i .out) ∙ result-refused (openRefusal key tape out) _ _ out n ((λ i. h i .answer) ∙ e);
+      seven = λ k l p room m. sym (λ i. h i .answer) ∙ result-number (openRefusal key tape out) _ _ out 6 (tape-seven key tape out k l p room m);
     }
 
 pub refusal-demand : RefusalDemand
-refusal-demand = record { sessions = session-refusals; writers = writer-refusals; openings = openings }
+refusal-demand =
+    record {
+      sessions = session-refusals;
+      writers = writer-refusals;
+      openings = opening-refusals;
+      sevens-alike = λ key key′ tape tape′ out after after′ r r′ h h′ e e′.
+          opening-refusals key tape out after r h .unchanged 7 e ∙ sym (opening-refusals key′ tape′ out after′ r′ h′ .unchanged 7 e′);
+    }

@@ -17,6 +17,24 @@ use Rattle.message.proofs.seal.Reads as seal-reads
 use Rattle.message.proofs.open as open'
 use Rattle.message.proofs.open.Kinds as open-kinds
 use Rattle.message.proofs.open.Reads as open-reads
+use Rattle.tape_model.specs.Writer as plain
+use Rattle.tape.specs.Contracts.{writerOf, WriterCalled}
+use Rattle.demands.specs.Refusals.{OpensTape}
+use Rattle.tape.proofs.Writer.fresh as writer-fresh'
+use Rattle.tape.proofs.Writer.fresh.Kinds as writer-fresh-kinds
+use Rattle.tape.proofs.Writer.fresh.Reads as writer-fresh-reads
+use Rattle.tape.proofs.Writer.start as start'
+use Rattle.tape.proofs.Writer.start.Kinds as start-kinds
+use Rattle.tape.proofs.Writer.start.Reads as start-reads
+use Rattle.tape.proofs.Writer.add as add'
+use Rattle.tape.proofs.Writer.add.Kinds as add-kinds
+use Rattle.tape.proofs.Writer.add.Reads as add-reads
+use Rattle.tape.proofs.Writer.finish as finish'
+use Rattle.tape.proofs.Writer.finish.Kinds as finish-kinds
+use Rattle.tape.proofs.Writer.finish.Reads as finish-reads
+use Rattle.tape.proofs.open_tape as open-tape'
+use Rattle.tape.proofs.open_tape.Kinds as open-tape-kinds
+use Rattle.tape.proofs.open_tape.Reads as open-tape-reads
 use Rattle.session.proofs.Session.fresh as fresh'
 use Rattle.session.proofs.Session.fresh.Kinds as fresh-kinds
 use Rattle.session.proofs.Session.fresh.Reads as fresh-reads
@@ -110,3 +128,43 @@ module _ (κs : Lifetimes.Lfts 5) (a : World.ArgsD open'.signature κs) where
   open-says : (r : World.ResD open'.signature κs) (x : Clauses.AtExit (Kinds'.endedOf 5 open-kinds.ps open-kinds.r) κs) → open-reads.Learnt κs a r x
       → OpensTo (now (a .0)) (now (a .1 .0)) (now (a .1 .1 .0)) (now (a .1 .1 .1 .0)) (now (a .1 .1 .1 .1 .0)) r (now (x .1 .1 .1 .1 .0))
   open-says r x h = h
+
+module _ (κs : Lifetimes.Lfts 0) (a : World.ArgsD writer-fresh'.signature κs) where
+  writer-fresh-asks : writer-fresh-reads.Asked κs a
+  writer-fresh-asks = tt
+
+  writer-fresh-says : (r : World.ResD writer-fresh'.signature κs) (x : Clauses.AtExit (Kinds'.endedOf 0 writer-fresh-kinds.ps writer-fresh-kinds.r) κs) → writer-fresh-reads.Learnt κs a r x
+      → writerOf r ≡ plain.freshWriter
+  writer-fresh-says r x h = h
+
+module _ (κs : Lifetimes.Lfts 2) (a : World.ArgsD start'.signature κs) where
+  start-asks : start-reads.Asked κs a
+  start-asks = tt
+
+  start-says : (r : World.ResD start'.signature κs) (x : Clauses.AtExit (Kinds'.endedOf 2 start-kinds.ps start-kinds.r) κs) → start-reads.Learnt κs a r x
+      → WriterCalled (a .0) (plain.start (now (a .1 .0)) (a .1 .1 .0) (now (a .1 .1 .1 .0))) r (now (x .1 .1 .1 .0))
+  start-says r x h = h
+
+module _ (κs : Lifetimes.Lfts 1) (a : World.ArgsD add'.signature κs) where
+  add-asks : add-reads.Asked κs a
+  add-asks = tt
+
+  add-says : (r : World.ResD add'.signature κs) (x : Clauses.AtExit (Kinds'.endedOf 1 add-kinds.ps add-kinds.r) κs) → add-reads.Learnt κs a r x
+      → WriterCalled (a .0) (plain.add (a .1 .0) (now (a .1 .1 .0))) r (now (x .1 .1 .0))
+  add-says r x h = h
+
+module _ (κs : Lifetimes.Lfts 1) (a : World.ArgsD finish'.signature κs) where
+  finish-asks : finish-reads.Asked κs a
+  finish-asks = tt
+
+  finish-says : (r : World.ResD finish'.signature κs) (x : Clauses.AtExit (Kinds'.endedOf 1 finish-kinds.ps finish-kinds.r) κs) → finish-reads.Learnt κs a r x
+      → WriterCalled (a .0) (plain.finish (now (a .1 .0))) r (now (x .1 .0))
+  finish-says r x h = h
+
+module _ (κs : Lifetimes.Lfts 3) (a : World.ArgsD open-tape'.signature κs) where
+  open-tape-asks : open-tape-reads.Asked κs a
+  open-tape-asks = tt
+
+  open-tape-says : (r : World.ResD open-tape'.signature κs) (x : Clauses.AtExit (Kinds'.endedOf 3 open-tape-kinds.ps open-tape-kinds.r) κs) → open-tape-reads.Learnt κs a r x
+      → OpensTape (now (a .0)) (now (a .1 .0)) (now (a .1 .1 .0)) r (now (x .1 .1 .0))
+  open-tape-says r x h = h

@@ -84,13 +84,13 @@ says w c r out h k = k ∙ call-within-writer (writerOf w) c h
 -- ## Whole lists
 
 module _ (es : List (Entry WriterCall)) (e : Writer) (l : WriterList es e) where
-  as-plain : (es ≡ entries writerCall freshWriter (callsOf es)) × (writerOf e ≡ handedOn writerCall freshWriter (callsOf es))
+  pub as-plain : (es ≡ entries writerCall freshWriter (callsOf es)) × (writerOf e ≡ handedOn writerCall freshWriter (callsOf es))
   as-plain =
       subst (λ (w : PlainWriter). (es ≡ entries writerCall w (callsOf es)) × (writerOf e ≡ handedOn writerCall w (callsOf es))) (l .isFresh)
       (as-model (λ (r : WriterReply). r .writer) (λ (r : WriterReply). answerReply (r .answer)) WriterCalled writerCall writerOf HasRun says runs-on (l .first) e es
       (subst HasRun (sym (l .isFresh)) (record { log = _; reached = fresh-writer-reached })) (l .played))
 
-  same-log : writerLogFrom (callsOf es) ≡ writerLog es
+  pub same-log : writerLogFrom (callsOf es) ≡ writerLog es
   same-log = ap writerLog (sym (as-plain .0))
 
 pub writer-demand : WriterDemand

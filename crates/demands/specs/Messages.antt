@@ -1,14 +1,16 @@
 -- Demand 2 on whole messages: what `message::seal` and `message::open` give, by their contracts.
 use mathlib.Core.Path.{_≡_}
+use mathlib.Core.Bool.{false}
 use mathlib.Core.List.{List, _++_}
 use mathlib.Core.Logic.{_↔_}
-use Prim.Native.Nat.{ℕ, _+_, _≤_}
+use Prim.Native.Nat.{ℕ, _+_, _-_, _≤_}
 use lib.ListN.{length}
 use Rattle.acorn_model.specs.declared.Written.{Written}
 use Rattle.acorn_model.specs.Bits.{Bits, AreBytes, bitsIn, bytes}
 use Rattle.acorn_model.specs.Stretches.{tagLength}
 use Rattle.acorn_model.specs.Calls.{done, refused, writtenReply, writtenOver}
-use Rattle.acorn_model.specs.Message.{sealMessage, openMessage}
+use Rattle.acorn_model.specs.Machine.{keyLength, nonceLength, byteLimit}
+use Rattle.acorn_model.specs.Message.{sealMessage, tagMatches, openMessage}
 use Rattle.acorn_model.specs.Laws.{ByPaper, WithinLimits}
 
 -- the contracts: the call answered r, and left `after` in the output that was `out`
@@ -32,7 +34,12 @@ module _ (key nonce «data» : List ℕ) where
         → WithinLimits key nonce «data» text → length text ≤ length out → OpensTo key nonce «data» sealedBytes out r after
         → (c T : Bits) → ByPaper key nonce «data» (length text) (bitsIn text) c T
         → ((writtenReply r ≡ done (length text)) × (after ≡ writtenOver text out)) ↔ (sealedBytes ≡ bytes (length text) c ++ bytes tagLength T)
-    -- where the tag does not match nothing is written, and two such openings cannot be told apart
+    -- where the tag is not the new one and no smaller number applies, the answer is 7, and nothing is written
+    pub seven : (sealedBytes out after : List ℕ) (r : Written) → OpensTo key nonce «data» sealedBytes out r after
+        → length key ≡ keyLength → length nonce ≡ nonceLength → length «data» ≤ byteLimit
+        → tagLength ≤ length sealedBytes → length sealedBytes - tagLength ≤ byteLimit → length sealedBytes - tagLength ≤ length out
+        → tagMatches key nonce «data» sealedBytes ≡ false → (writtenReply r ≡ refused 7) × (after ≡ out)
+    -- two openings that are answered 7 leave their outputs as they were, whatever they were given
     pub sevens-alike : (key′ nonce′ data′ sealedBytes sealedBytes′ out after after′ : List ℕ) (r r′ : Written)
         → OpensTo key nonce «data» sealedBytes out r after → OpensTo key′ nonce′ data′ sealedBytes′ out r′ after′
         → writtenReply r ≡ refused 7 → writtenReply r′ ≡ refused 7 → (after ≡ out) × (after′ ≡ out)
