@@ -79,14 +79,20 @@ pub(crate) fn together(s: State, x: u32, opening: bool, ca: bool, cb: bool, k: u
     let z = keystream_word(s);
     let f = feedback_word(s, ca, cb, z);
     let new = f ^ ((mask(opening) & z) ^ x);
+    let w0 = s.w0;
+    let w1 = s.w1;
+    let w2 = s.w2;
+    let w3 = s.w3;
+    let w4 = s.w4;
+    let w5 = s.w5;
     Stepped {
         state: State {
-            w0: shifted(s.w0, updated(s, 61, 23, 0), k),
-            w1: shifted(s.w1, updated(s, 107, 66, 61), k),
-            w2: shifted(s.w2, updated(s, 154, 111, 107), k),
-            w3: shifted(s.w3, updated(s, 193, 160, 154), k),
-            w4: shifted(s.w4, updated(s, 230, 196, 193), k),
-            w5: shifted_last(s.w5, from(s, 235) ^ from(s, 230), new, k),
+            w0: shifted(w0, updated(s, 61, 23, 0), k),
+            w1: shifted(w1, updated(s, 107, 66, 61), k),
+            w2: shifted(w2, updated(s, 154, 111, 107), k),
+            w3: shifted(w3, updated(s, 193, 160, 154), k),
+            w4: shifted(w4, updated(s, 230, 196, 193), k),
+            w5: shifted_last(w5, from(s, 235) ^ from(s, 230), new, k),
         },
         ks: z,
     }

@@ -1,6 +1,4 @@
 -- `acorn::kernel::updated` meets its contract.
-use mathlib.Core.Path.{ap₂, _∙_}
-use Rattle.acorn_model.specs.Bits.{_⊕_}
 use borrow.Author.Needs.{needs}
 use Rattle.acorn.proofs.WordBits.{bit-xor}
 use Rattle.acorn.proofs.StepWords.{xor-assoc}
