@@ -15,7 +15,7 @@ use Rattle.tape_model.specs.Ticket.{form1, ticketOf, valuesRule, net, unpackTic
 use Rattle.tape_model.specs.Tape.{Totals, ticketsLength, ticketThen, unpackTickets, totalNet, totalsOf, plainTotals}
 
 -- 13 bytes are refused for their values alone
-refused-by-8 : (s : List ℕ) (n : ℕ) → length s ≡ 13 → refused n ≡ unpackTicket s → n ≡ 8
+pub refused-by-8 : (s : List ℕ) (n : ℕ) → length s ≡ 13 → refused n ≡ unpackTicket s → n ≡ 8
 unfolding unpackTicket
 refused-by-8 s n e r = let vs = unpack (widths form1) s in by (ticketOf vs) (valuesRule vs) (rw (eq-eqb (length s) 13 e) at r)
   where

@@ -1,0 +1,53 @@
+// The reader: it hands out the tickets of opened bytes in turn, and after the last says that it is at the end. Each call takes the reader and
+// hands back the reader after it, with an answer. The work is done by `read_at`, whose parameters are plain.
+ghost use mathlib.Core.Path.{_≡_};
+ghost use Rattle.tape_model.specs.Tape.{ticketsLength};
+ghost use Rattle.tape_model.specs.Reader.{readNext};
+ghost use Rattle.reader.specs.Contracts.{readerAt, stepOutcome};
+use tape_model::NextTicket;
+use tape_model::UnpackedTicket;
+
+// What stands at a position, and the position after it. Positions count tickets.
+pub struct Step {
+    pub position: usize,
+    pub answer: NextTicket,
+}
+
+// Whether so many bytes are 13 for each of at most 5,000 tickets.
+fn tickets_length(n: usize) -> bool
+    ensures { λ r. ⌜ r ≡ ticketsLength n ⌝ }
+{
+    (n % 13 == 0) & (n / 13 <= 5000)
+}
+
+// The ticket at a position of opened bytes: 2 for bytes of a wrong size, 8 where the ticket does not unpack, and the position stays.
+pub fn read_at(bytes: &[u8], position: usize) -> Step
+    ensures { λ r. ⌜ stepOutcome (now (bytes .entry)) r ≡ readNext (readerAt (now (bytes .entry)) position) ⌝ }
+{
+    let size = bytes.len();
+    if !tickets_length(size) {
+        return Step {
+            position,
+            answer: NextTicket::Refused(2),
+        };
+    }
+    if size / 13 <= position {
+        return Step {
+            position,
+            answer: NextTicket::End,
+        };
+    }
+    let at = 13 * position;
+    let end = at + 13;
+    let UnpackedTicket::Done(t) = ticket::unpack_ticket(&bytes[at..end]) else {
+        return Step {
+            position,
+            answer: NextTicket::Refused(8),
+        };
+    };
+    let next = position + 1;
+    Step {
+        position: next,
+        answer: NextTicket::Done(t),
+    }
+}
