@@ -1,8 +1,8 @@
 -- What a call of document 01's reader comes to, case by case.
-use mathlib.Core.Path.{_≡_, refl, sym, ap, _∙_}
+use mathlib.Core.Path.{_≡_, sym, ap, _∙_}
 use mathlib.Core.Bool.{Bool, true, false, not}
 use mathlib.Core.List.{List}
-use Prim.Native.Nat.{ℕ, _+_, _*_, _/_, _<_, _≤_}
+use Prim.Native.Nat.{ℕ, _*_, _/_, _<_, _≤_}
 use native.Mathlib.Omega.{arith}
 use lib.ListN.{length, take, drop, length-drop}
 use lib.Seq.{length-take-le}
@@ -11,7 +11,7 @@ use Rattle.acorn_model.specs.Calls.{Reply, refused, done}
 use Rattle.tape_model.specs.declared.Ticket.{Ticket}
 use Rattle.tape_model.specs.Ticket.{unpackTicket}
 use Rattle.tape_model.specs.Tape.{ticketsLength}
-use Rattle.tape_model.specs.Reader.{Reading, atEnd, ReadOutcome, stays, handedOut, readNext}
+use Rattle.tape_model.specs.Reader.{atEnd, stays, handedOut, readNext}
 use Rattle.ticket.proofs.Summing.{refused-by-8}
 use Rattle.reader.specs.Contracts.{readerAt}
 

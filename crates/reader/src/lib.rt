@@ -3,7 +3,7 @@
 ghost use mathlib.Core.Path.{_≡_};
 ghost use Rattle.tape_model.specs.Tape.{ticketsLength};
 ghost use Rattle.tape_model.specs.Reader.{readNext};
-ghost use Rattle.reader.specs.Contracts.{readerAt, stepOutcome};
+ghost use Rattle.reader.specs.Contracts.{readerAt, stepOutcome, Made, NextCalled};
 use tape_model::NextTicket;
 use tape_model::UnpackedTicket;
 
@@ -49,5 +49,40 @@ pub fn read_at(bytes: &[u8], position: usize) -> Step
     Step {
         position: next,
         answer: NextTicket::Done(t),
+    }
+}
+
+// Opened bytes, and how many of their tickets were handed out.
+pub struct Reader<'a> {
+    bytes: &'a [u8],
+    position: usize,
+}
+
+// What a call answered, and the reader after it.
+pub struct Handed<'a> {
+    pub reader: Reader<'a>,
+    pub answer: NextTicket,
+}
+
+impl<'a> Reader<'a> {
+    // A reader before the first ticket, over whatever bytes.
+    pub fn new(bytes: &'a [u8]) -> Reader<'a>
+        ensures { λ r. ⌜ Made (bytes .entry) r ⌝ }
+    {
+        Reader { bytes, position: 0 }
+    }
+
+    // Hands out the next ticket.
+    pub fn next(self) -> Handed<'a>
+        ensures { λ h. ⌜ NextCalled (self .entry) h ⌝ }
+    {
+        let step = read_at(self.bytes, self.position);
+        Handed {
+            reader: Reader {
+                bytes: self.bytes,
+                position: step.position,
+            },
+            answer: step.answer,
+        }
     }
 }
