@@ -1,0 +1,188 @@
+-- What comes of reading: from the contracts to document 01's reader, and from there ticket by ticket.
+use mathlib.Core.Path.{_≡_, refl, sym, ap, _∙_, subst}
+use mathlib.Core.Bool.{Bool, true, false, not}
+use mathlib.Core.List.{List, [], _∷_, _++_}
+use Prim.Native.Nat.{ℕ, zero, suc, _+_, _*_, _/_, _≤_}
+use native.Mathlib.Omega.{arith}
+use lib.Dec.{leb}
+use lib.ListN.{length, take, drop}
+use lib.Seq.{take-nil, take-at, drop-drop}
+use denote.Ref.{RefT, now}
+use Rattle.acorn_model.specs.Bits.{_if_else_}
+use Rattle.acorn_model.specs.Calls.{Reply, refused, done, writtenOver}
+use Rattle.tape_model.specs.declared.Ticket.{Ticket}
+use Rattle.tape_model.specs.declared.NextTicket.{NextTicket}
+use Rattle.tape_model.specs.declared.NextTicket.the-variants.{Refused, Done, End}
+use Rattle.tape_model.specs.Ticket.{unpackTicket}
+use Rattle.tape_model.specs.Tape.{packTickets, ticketsLength, ticketThen, isRefused, unpackTickets}
+use Rattle.tape_model.specs.Reader as model
+use Rattle.tape_model.specs.Reader.{Reading, ticket, atEnd, ReadOutcome, stays, handedOut, readerOver, readNext, nextReply}
+use Rattle.tape_model.specs.Laws.{readings, readerAfter}
+use Rattle.tape_model.proofs.Tapes.{tickets-length, tickets-unpack, length-allowed, tapes-come-back}
+use Rattle.reader.specs.declared.Reader.{Reader}
+use Rattle.reader.specs.declared.Handed.{Handed}
+use Rattle.reader.specs.Contracts.{readerAt, readerOf, outcomeOf, NextCalled}
+use Rattle.reader.specs.Reading.{NextCalls, none, call, ReaderList, inTurn, HandsOut, ReadingLaws}
+use Rattle.reader.proofs.Cases.{wrong-size, no-more, unpacked, not-unpacked}
+
+-- ## As document 01's reader
+
+as-defined-from : (r e : Reader) (answers : List (Reply Reading)) → NextCalls r answers e
+    → (answers ≡ readings (length answers) (readerOf r)) × (readerOf e ≡ readerAfter (length answers) (readerOf r))
+unfolding outcomeOf
+as-defined-from r e _ none = (refl, refl)
+as-defined-from r e _ (call {answers = answers} h called calls) =
+    let o : outcomeOf h ≡ readNext (readerOf r) = called .outcome in
+    let rest = as-defined-from (h .reader) e answers calls in
+    (λ i. o i .answer ∷ (rest .0 ∙ (λ j. readings (length answers) (o j .next))) i, rest .1 ∙ (λ j. readerAfter (length answers) (o j .next)))
+
+same-from : (r e : Reader) (answers : List (Reply Reading)) → NextCalls r answers e → e .bytes ≡ r .bytes
+same-from r e _ none = refl
+same-from r e _ (call {answers = answers} h called calls) = same-from (h .reader) e answers calls ∙ called .same
+
+module _ (bytes : RefT (List ℕ)) (answers : List (Reply Reading)) (e : Reader) (l : ReaderList bytes answers e) where
+  as-defined : (answers ≡ readings (length answers) (readerOver (now bytes))) × (readerOf e ≡ readerAfter (length answers) (readerOver (now bytes)))
+  as-defined =
+      subst (λ (r : model.Reader). (answers ≡ readings (length answers) r) × (readerOf e ≡ readerAfter (length answers) r)) (l .made .fresh)
+      (as-defined-from (l .first) e answers (l .calls))
+
+  same : e .bytes ≡ bytes
+  same = same-from (l .first) e answers (l .calls) ∙ l .made .same
+
+-- ## Every call can be made
+
+abbrev answerOf : Reply Reading → NextTicket
+answerOf (refused n) = Refused n
+answerOf (done (ticket t)) = Done t
+answerOf (done atEnd) = End
+
+answers-so : (a : Reply Reading) → nextReply (answerOf a) ≡ a
+unfolding nextReply
+answers-so (refused n) = refl
+answers-so (done (ticket t)) = refl
+answers-so (done atEnd) = refl
+
+same-string : (r : model.Reader) → readNext r .next .string ≡ r .string
+unfolding readNext handedOut
+same-string r =
+    by (not (ticketsLength (length (r .string)))) (leb (length (r .string) / 13) (r .position)) (unpackTicket (take 13 (drop (13 * r .position) (r .string))))
+  where
+    by : (a b : Bool) (t : Reply Ticket) → (stays r (refused 2) if a else stays r (done atEnd) if b else handedOut t r) .next .string ≡ r .string
+    by true b t = refl
+    by false true t = refl
+    by false false (refused n) = refl
+    by false false (done t) = refl
+
+reply : (r : Reader) → (h : Handed) × NextCalled r h
+unfolding readerOf outcomeOf
+reply r =
+    let o : ReadOutcome = readNext (readerOf r) in (
+      record { reader = record { bytes = r .bytes; position = o .next .position }; answer = answerOf (o .answer) },
+      record {
+        same = refl;
+        outcome = λ i. record { next = readerAt (sym (same-string (readerOf r)) i) (o .next .position); answer = answers-so (o .answer) i };
+      },
+    )
+
+callable : (bytes : RefT (List ℕ)) (n : ℕ) → (answers : List (Reply Reading)) × (e : Reader) × ReaderList bytes answers e × (length answers ≡ n)
+unfolding readerOf readerOver
+callable bytes n =
+    let c = from (record { bytes = bytes; position = 0 }) n in
+    (c .0, c .1, record { first = record { bytes = bytes; position = 0 }; made = record { same = refl; fresh = refl }; calls = c .2 }, c .3)
+  where
+    from : (r : Reader) (n : ℕ) → (answers : List (Reply Reading)) × (e : Reader) × NextCalls r answers e × (length answers ≡ n)
+    from r zero = ([], r, none, refl)
+    from r (suc n) =
+        let k = reply r in
+        let c = from (k .0 .reader) n in
+        (nextReply (k .0 .answer) ∷ c .0, c .1, call (k .0) (k .1) (c .2), ap suc (c .3))
+
+-- ## Ticket by ticket
+
+module _ (s : List ℕ) (last : Reply Reading) where
+  -- what lies before the reader: tickets that it hands out, and then what it answers without moving
+  abbrev Ahead : ℕ → List Ticket → Type 0
+  Ahead p [] = readNext (readerAt s p) ≡ stays (readerAt s p) last
+  Ahead p (t ∷ ts) = (readNext (readerAt s p) ≡ record { next = readerAt s (p + 1); answer = done (ticket t) }) × Ahead (p + 1) ts
+
+  in-turn : (n p : ℕ) (ts : List Ticket) → Ahead p ts
+      → (readings n (readerAt s p) ≡ inTurn ts last n) × (readerAfter n (readerAt s p) ≡ readerAt s (p + length (take n ts)))
+  in-turn zero p ts a = (refl, ap (readerAt s) {x = p} {y = p + 0} (omega arith))
+  in-turn (suc n) p [] a =
+      let rest = in-turn n p [] a in (
+        λ i. a i .answer ∷ ((λ j. readings n (a j .next)) ∙ rest .0) i,
+        (λ j. readerAfter n (a j .next)) ∙ rest .1 ∙ ap (λ (l : List Ticket). readerAt s (p + length l)) (take-nil n),
+      )
+  in-turn (suc n) p (t ∷ ts) a =
+      let rest = in-turn n (p + 1) ts (a .1) in (
+        λ i. a .0 i .answer ∷ ((λ j. readings n (a .0 j .next)) ∙ rest .0) i,
+        (λ j. readerAfter n (a .0 j .next)) ∙ rest .1 ∙ ap (readerAt s) {x = p + 1 + length (take n ts)} {y = p + suc (length (take n ts))} (omega arith),
+      )
+
+-- ## What lies before a reader over these bytes
+
+both : (a : Reply Ticket) (b : Reply (List Ticket)) (t : Ticket) (ts : List Ticket) → ticketThen a b ≡ done (t ∷ ts) → (a ≡ done t) × (b ≡ done ts)
+both (refused n) b t ts e = let z : _≡_ {A = ℕ} 0 1 = cc in absurd (omega arith)
+both (done u) (refused n) t ts e = let z : _≡_ {A = ℕ} 0 1 = cc in absurd (omega arith)
+both (done u) (done us) t ts e = (cc, cc)
+
+module _ (s : List ℕ) (last : Reply Reading) (sized : ticketsLength (length s) ≡ true) where
+  ahead : (p : ℕ) (ts : List Ticket) → p + length ts ≤ length s / 13 → unpackTickets (length ts) (drop (13 * p) s) ≡ done ts
+      → Ahead s last (p + length ts) [] → Ahead s last p ts
+  unfolding unpackTickets handedOut
+  ahead p [] room u a = subst (λ (k : ℕ). Ahead s last k []) {x = p + 0} {y = p} (omega arith) a
+  ahead p (t ∷ ts) room u a =
+      let e = both (unpackTicket (take 13 (drop (13 * p) s))) (unpackTickets (length ts) (drop 13 (drop (13 * p) s))) t ts u in
+      let on : drop (13 * (p + 1)) s ≡ drop 13 (drop (13 * p) s) = ap (λ (k : ℕ). drop k s) {x = 13 * (p + 1)} {y = 13 * p + 13} (omega arith) ∙ sym (drop-drop 13 (13 * p) s) in (
+        sym (unpacked s p true (sym sized) refl 13 (omega arith) refl (done t) (sym (e .0))),
+        ahead (p + 1) ts (omega arith) (ap (unpackTickets (length ts)) on ∙ e .1)
+            (subst (λ (k : ℕ). Ahead s last k []) {x = p + suc (length ts)} {y = p + 1 + length ts} (omega arith) a),
+      )
+
+number : (x : Reply Ticket) → isRefused x ≡ true → (n : ℕ) × (refused n ≡ x)
+number (refused n) e = (n, refl)
+number (done t) e = let z : _≡_ {A = ℕ} 0 1 = cc in absurd (omega arith)
+
+module _ (bytes : RefT (List ℕ)) where
+  abbrev s : List ℕ
+  s = now bytes
+
+  hands-out : (ts : List Ticket) (last : Reply Reading) → Ahead s last 0 ts → HandsOut bytes ts last
+  unfolding readerOver
+  hands-out ts last a answers e l =
+      let d = as-defined bytes answers e l in
+      let h = in-turn s last (length answers) 0 ts a in
+      (d .0 ∙ h .0, d .1 ∙ h .1 ∙ ap (readerAt s) {x = 0 + length (take (length answers) ts)} {y = length (take (length answers) ts)} (omega arith))
+
+  -- bytes of a right size that begin with these tickets
+  begins : (ts : List Ticket) (last : Reply Reading) → ticketsLength (length s) ≡ true → length ts ≤ length s / 13 → unpackTickets (length ts) s ≡ done ts
+      → readNext (readerAt s (length ts)) ≡ stays (readerAt s (length ts)) last → HandsOut bytes ts last
+  begins ts last sized room u a =
+      hands-out ts last (ahead s last sized 0 ts (omega arith) u (subst (λ (k : ℕ). Ahead s last k []) {x = length ts} {y = 0 + length ts} (omega arith) a))
+
+  whole : (ts : List Ticket) → length s ≡ 13 * length ts → length ts ≤ 5000 → unpackTickets (length ts) s ≡ done ts → HandsOut bytes ts (done atEnd)
+  whole ts size few u =
+      let sized : ticketsLength (length s) ≡ true = ap ticketsLength size ∙ length-allowed (length ts) few in
+      begins ts (done atEnd) sized (omega arith) u (sym (no-more s (length ts) true (sym sized) refl (omega arith)))
+
+  laws : ReadingLaws bytes
+  unfolding writtenOver
+  laws =
+      record {
+        callable = callable bytes;
+        same = same bytes;
+        as-defined = as-defined bytes;
+        whole = whole;
+        tape = λ key head ts k h v n out after o room opened e.
+            let left : after ≡ packTickets ts ++ drop (length (packTickets ts)) out =
+            λ i. (sym opened ∙ tapes-come-back key head ts k h v n .opens out room) i .out in
+            let plain : s ≡ packTickets ts = e ∙ ap (take (13 * length ts)) left ∙ take-at (packTickets ts) _ _ (tickets-length ts) in
+            whole ts (ap length plain ∙ tickets-length ts) n (ap (unpackTickets (length ts)) plain ∙ tickets-unpack ts v);
+        wrong-size = λ wrong. hands-out [] (refused 2) (sym (wrong-size s 0 false (sym wrong) refl));
+        bad-ticket = λ ts sized here u bad.
+            let x = number (unpackTicket (take 13 (drop (13 * length ts) s))) bad in
+            begins ts (refused 8) sized (omega arith) u (sym (not-unpacked s (length ts) true (sym sized) refl 13 here refl (x .0) (x .1)));
+      }
+
+pub reading-laws : (bytes : RefT (List ℕ)) → ReadingLaws bytes
+reading-laws = laws
