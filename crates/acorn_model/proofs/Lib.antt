@@ -12,5 +12,6 @@ pub mod Inverse
 pub mod Relation
 pub mod SameBytes
 pub mod Whole
+pub mod Writing
 pub mod Messages
 pub mod Proved

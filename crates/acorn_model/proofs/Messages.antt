@@ -39,13 +39,21 @@ unfolding resultOf unlessRefused
 result-refused zero a written out h = absurd (h refl)
 result-refused (suc n) a written out h = refl
 
-done-told : (n a : ℕ) (written out : List ℕ) (m : ℕ) (after : List ℕ) → resultOf n a written out ≡ record { answer = done m; out = after }
+pub done-told : {A : Type 0} (n : ℕ) (a : A) (written out : List ℕ) (m : A) (after : List ℕ) → resultOf n a written out ≡ record { answer = done m; out = after }
     → (n ≡ 0) × (a ≡ m) × (writtenOver written out ≡ after)
 unfolding resultOf unlessRefused
-done-told zero a written out m after e = let f = ap (λ (r : Result ℕ). r .answer) e in (refl, cc, ap (λ (r : Result ℕ). r .out) e)
-done-told (suc n) a written out m after e =
-    let f = ap (λ (r : Result ℕ). r .answer) e in
+done-told {A} zero a written out m after e = let f = ap (λ (r : Result A). r .answer) e in (refl, cc, ap (λ (r : Result A). r .out) e)
+done-told {A} (suc n) a written out m after e =
+    let f = ap (λ (r : Result A). r .answer) e in
     let z : _≡_ {A = ℕ} 0 1 = cc in absurd (omega arith)
+
+pub refused-told : {A : Type 0} (n : ℕ) (a : A) (written out : List ℕ) (m : ℕ) (after : List ℕ) → resultOf n a written out ≡ record { answer = refused m; out = after }
+    → (n ≡ m) × (n ≡ 0 → ⊥)
+unfolding resultOf unlessRefused
+refused-told {A} zero a written out m after e =
+    let f = ap (λ (r : Result A). r .answer) e in
+    let z : _≡_ {A = ℕ} 0 1 = cc in absurd (omega arith)
+refused-told {A} (suc n) a written out m after e = let f = ap (λ (r : Result A). r .answer) e in (cc, λ z. omega arith)
 
 unwritten : (n a : ℕ) (written out : List ℕ) (m : ℕ) → resultOf n a written out .answer ≡ refused m → resultOf n a written out .out ≡ out
 unfolding resultOf unlessRefused

@@ -1,12 +1,11 @@
 -- Sealing from its parts: the state in which the text begins, the text run into the output, and the tag written behind it.
 use mathlib.Core.Path.{_≡_, sym, ap, ap₂, _∙_}
 use mathlib.Core.Bool.{false}
-use mathlib.Core.List.{List, [], _++_, append-assoc, append-nil}
+use mathlib.Core.List.{List}
 use Prim.Native.Nat.{ℕ, _+_, _-_, _≤_}
 use native.Mathlib.Omega.{arith}
 use lib.Dec.{ltb}
-use lib.ListN.{length, take, drop, length-append, length-take, length-drop}
-use lib.Seq.{take-at, drop-at, take-all, drop-drop, drop-length}
+use lib.ListN.{length, take, drop, length-take, length-drop}
 use borrow.Author.Tests.{eq-eqb, le-ltb}
 use borrow.Rule.Slice.PartMut.{putMid}
 use Rattle.acorn_model.specs.Bits.{Bits}
@@ -17,38 +16,13 @@ use Rattle.acorn_model.specs.Message.{sealed, sealRefusal, sealMessage}
 use Rattle.acorn_model.specs.Laws.{WithinLimits}
 use Rattle.acorn_model.proofs.Agree.{ciphertext-agrees, tag-agrees}
 use Rattle.acorn_model.proofs.Outputs.{ciphertext-length, tag-length, sealed-length}
+use Rattle.acorn_model.proofs.Writing.{written-length, written-behind}
 use Rattle.acorn_model.proofs.Messages.{seal-told, result-written, result-refused}
 use Rattle.acorn.specs.Runs.{TextRun, startState, tagOutput}
 
 pub start-right : (key nonce : List ℕ) → length key ≡ 16 → length nonce ≡ 16 → startState key nonce ≡ through (start key nonce) zeros
 unfolding startState
 start-right key nonce e f = rw (eq-eqb (length key) 16 e, eq-eqb (length nonce) 16 f)
-
--- two strings written one behind the other are the joined string written
-written-twice : (c t out mid part : List ℕ) (n : ℕ) → length c ≡ n → n + length t ≤ length out → mid ≡ c ++ drop n out
-    → part ≡ t ++ drop (length t) (take (length mid - n) (drop n mid)) → putMid n (length mid - n) mid part ≡ writtenOver (c ++ t) out
-unfolding writtenOver
-written-twice c t out mid part n long room mid-is part-is =
-    ap₂ _++_ (ap (take n) mid-is ∙ take-at c (drop n out) n long) (ap₂ _++_ (part-is ∙ ap (λ (l : List ℕ). t ++ drop (length t) l) whole) none ∙ append-nil (t ++ drop (length t) (drop n out)))
-    ∙ sym (append-assoc c t (drop (length t) (drop n out))) ∙ ap (λ (l : List ℕ). c ++ t ++ l) behind
-  where
-    rest : drop n mid ≡ drop n out
-    rest = ap (drop n) mid-is ∙ drop-at c (drop n out) n long
-
-    same : length mid ≡ length out
-    same = ap length mid-is ∙ length-append c (drop n out) ∙ omega (arith, length-drop n out)
-
-    whole : take (length mid - n) (drop n mid) ≡ drop n out
-    whole = take-all (length mid - n) (drop n mid) (omega (arith, length-drop n mid)) ∙ rest
-
-    none : drop (length mid - n) (drop n mid) ≡ []
-    none = ap (λ (k : ℕ). drop k (drop n mid)) (sym (length-drop n mid)) ∙ drop-length (drop n mid)
-
-    both : n + length t ≡ length (c ++ t)
-    both = omega (arith, length-append c t)
-
-    behind : drop (length t) (drop n out) ≡ drop (length (c ++ t)) out
-    behind = drop-drop (length t) n out ∙ ap (λ (k : ℕ). drop k out) both
 
 -- the number is the answer, or tells that no number applies
 module _ (key nonce «data» text out : List ℕ) (n : ℕ) (number : n ≡ sealRefusal key nonce «data» text out) where
@@ -73,29 +47,25 @@ module _ (key nonce «data» text out mid part : List ℕ) (n : ℕ) (S S₁ S�
   fits : ltb (length out) (length text) ≡ false
   fits = le-ltb (length out) (length text) (omega (arith, room))
 
-  text-written : mid ≡ c ++ drop (length text) out
-  unfolding writtenOver
-  text-written =
-      (rw fits at (run .output))
-      ∙ ap (λ (l : List ℕ). l ++ drop (length l) out) (ap (textOut false text) S-is ∙ ciphertext-agrees key nonce «data» text)
-      ∙ ap (λ (n : ℕ). c ++ drop n out) (ciphertext-length key nonce «data» text)
+  text-written : mid ≡ writtenOver c out
+  text-written = (rw fits at (run .output)) ∙ ap (λ (l : List ℕ). writtenOver l out) (ap (textOut false text) S-is ∙ ciphertext-agrees key nonce «data» text)
 
   tag-is : tagOf S₂ ≡ t
   tag-is = ap tagOf (S₂-is ∙ ap (through textEnd) ((rw fits at (run .state)) ∙ ap (through (textPiece false text)) S-is)) ∙ tag-agrees key nonce «data» text
 
   long : length mid ≡ length out
-  long = ap length text-written ∙ simp (length-append, length-drop) (omega (arith, ciphertext-length key nonce «data» text, room))
+  long = ap length text-written ∙ written-length c out (omega (arith, ciphertext-length key nonce «data» text, room))
 
-  tag-written : part ≡ t ++ drop (length t) (take (length mid - length text) (drop (length text) mid))
-  unfolding tagOutput writtenOver
+  tag-written : part ≡ writtenOver t (take (length mid - length text) (drop (length text) mid))
+  unfolding tagOutput
   tag-written =
       let fits : ltb (length (take (length mid - length text) (drop (length text) mid))) tagLength ≡ false
       = le-ltb (length (take (length mid - length text) (drop (length text) mid))) tagLength (simp (length-take, length-drop) (omega (arith, long, room))) in
-      (rw fits at part-is) ∙ ap (λ (l : List ℕ). l ++ drop (length l) (take (length mid - length text) (drop (length text) mid))) tag-is
+      (rw fits at part-is) ∙ ap (λ (l : List ℕ). writtenOver l (take (length mid - length text) (drop (length text) mid))) tag-is
 
   pub sealed-by-parts : sealMessage key nonce «data» text out ≡ record { answer = done (length text + tagLength); out = putMid (length text) (length mid - length text) mid part }
   unfolding sealMessage sealed
   sealed-by-parts =
       result-written _ _ _ out (sym number ∙ accepted)
       ∙ ap₂ (λ (n : ℕ) (o : List ℕ). record { answer = done n; out = o }) (sealed-length key nonce «data» text)
-      (sym (written-twice c t out mid part (length text) (ciphertext-length key nonce «data» text) (omega (arith, tag-length key nonce «data» text, room)) text-written tag-written))
+      (sym (written-behind c t out mid part (length text) (ciphertext-length key nonce «data» text) (omega (arith, tag-length key nonce «data» text, room)) text-written tag-written))

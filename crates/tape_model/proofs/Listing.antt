@@ -1,17 +1,17 @@
 -- The listing's numbers are decimal digits that read back as the number, and document 01's example comes out.
-use mathlib.Core.Path.{_≡_, refl, ap, _∙_}
+use mathlib.Core.Path.{_≡_, refl, sym, ap, _∙_}
 use mathlib.Core.Bool.{Bool, true, false}
 use mathlib.Core.List.{List, [], _∷_, _++_}
 use Prim.Native.Nat.{ℕ, zero, suc, _+_, _-_, _*_, _/_, _%_, _^_, _≤_, _<_}
 use native.Mathlib.Nat.{pow-suc}
 use native.Mathlib.Omega.{arith}
 use lib.Dec.{ltb}
-use lib.ListN.{length, getD}
-use borrow.Author.Tests.{ltb-true, ltb-false}
+use lib.ListN.{length, getD, length-append}
+use borrow.Author.Tests.{ltb-true, ltb-false, lt-ltb, le-ltb}
 use Rattle.acorn_model.specs.Bits.{_if_else_}
 use Rattle.tape_model.specs.Ticket.{net}
 use Rattle.tape_model.specs.Tape.{totalNet}
-use Rattle.tape_model.specs.Listing.{decimalBelow, numbers, headLine, ticketLine, ticketLines, totalLine, listed, listingUnless, listing}
+use Rattle.tape_model.specs.Listing.{decimalBelow, decimal, numbers, headLine, ticketLine, ticketLines, totalLine, listed, listingUnless, listing}
 use Rattle.tape_model.specs.Laws.{valueAfter, ListingLaws}
 
 -- what holds of one digit, and of more, holds of a number's digits
@@ -23,6 +23,40 @@ by-digits P k n one more = chosen (ltb n 10) (λ e. one (ltb-true n 10 e)) (λ e
         → P (((0x30 + n) ∷ []) if t else (decimalBelow k (n / 10) ++ ((0x30 + n % 10) ∷ [])))
     chosen true a b = a refl
     chosen false a b = b refl
+
+-- ## Digit by digit
+
+one-digit-alone : (k n : ℕ) → n < 10 → decimalBelow (suc k) n ≡ (0x30 + n) ∷ []
+unfolding decimalBelow
+one-digit-alone k n h = rw (lt-ltb n 10 h)
+
+more-digits : (k n : ℕ) → 10 ≤ n → decimalBelow (suc k) n ≡ decimalBelow k (n / 10) ++ ((0x30 + n % 10) ∷ [])
+unfolding decimalBelow
+more-digits k n h = rw (le-ltb n 10 h)
+
+-- room for a digit more changes nothing
+more-room : (k n : ℕ) → n < 10 ^ suc k → decimalBelow (suc (suc k)) n ≡ decimalBelow (suc k) n
+more-room zero n h = one-digit-alone 1 n (omega (arith, pow-suc 10 0)) ∙ sym (one-digit-alone 0 n (omega (arith, pow-suc 10 0)))
+more-room (suc k) n h =
+    by-digits (λ ds. decimalBelow (suc (suc (suc k))) n ≡ ds) (suc k) n (one-digit-alone (suc (suc k)) n)
+    (λ l. more-digits (suc (suc k)) n l ∙ ap (λ (ds : List ℕ). ds ++ ((0x30 + n % 10) ∷ [])) (more-room k (n / 10) (omega (arith, pow-suc 10 (suc k)))))
+
+pub decimal-one : (n : ℕ) → n < 10 → decimal n ≡ (0x30 + n) ∷ []
+decimal-one = one-digit-alone 19
+
+pub decimal-more : (n : ℕ) → 10 ≤ n → n < 10 ^ 20 → decimal n ≡ decimal (n / 10) ++ ((0x30 + n % 10) ∷ [])
+decimal-more n l h = more-digits 19 n l ∙ ap (λ (ds : List ℕ). ds ++ ((0x30 + n % 10) ∷ [])) (sym (more-room 18 (n / 10) (omega (arith, pow-suc 10 19))))
+
+-- a number below 10 ^ k has at most k digits
+few-digits : (k room n : ℕ) → n < 10 ^ suc k → length (decimalBelow room n) ≤ suc k
+few-digits k zero n h = unfold decimalBelow in omega arith
+few-digits zero (suc room) n h = rw (one-digit-alone room n (omega (arith, pow-suc 10 0))) (omega arith)
+few-digits (suc k) (suc room) n h =
+    by-digits (λ ds. length ds ≤ suc (suc k)) room n (λ l. omega arith)
+    (λ l. omega (arith, length-append (decimalBelow room (n / 10)) ((0x30 + n % 10) ∷ []), few-digits k room (n / 10) (omega (arith, pow-suc 10 (suc k)))))
+
+pub decimal-length : (k n : ℕ) → n < 10 ^ suc k → length (decimal n) ≤ suc k
+decimal-length k = few-digits k 20
 
 -- ## Digits
 

@@ -128,8 +128,8 @@ fn packed_head(h: Head) -> [u8; 9]
     ]
 }
 
-// Writes packed bytes at the start of the output.
-fn put(packed: &[u8], out: &mut [u8]) -> Written
+// Writes bytes at the start of the output: 6 where it is too short.
+pub fn put(packed: &[u8], out: &mut [u8]) -> Written
     ensures { λ r. ⌜ putInto (now (packed .entry)) (now (out .entry)) ≡ record { answer = writtenReply r; out = now (out .exit) } ⌝ }
 {
     if out.len() < packed.len() {

@@ -1,0 +1,100 @@
+-- The input of the listing program: where its key ends, and that one byte more than the longest is enough.
+use mathlib.Core.Path.{_≡_, refl, sym, ap, ap₂, _∙_}
+use mathlib.Core.Bool.{Bool, true, false, not, _&&_}
+use mathlib.Core.Logic.{⊎-elim}
+use mathlib.Core.List.{List, [], _++_}
+use Prim.Native.Nat.{ℕ, zero, suc, _+_, _-_, _*_, _/_, _%_, _≤_, _<_}
+use native.Mathlib.Omega.{arith}
+use lib.Dec.{eqb, leb}
+use lib.ListN.{length, take, drop, replicate, length-take, length-drop, drop-of-length-le}
+use lib.Seq.{take-all, take-length, drop-length}
+use borrow.Author.Tests.{lt-leb, le-ltb, ne-eqb}
+use Rattle.acorn_model.specs.Bits.{_if_else_}
+use Rattle.acorn_model.specs.Calls.{refused, done, accepted, writtenOver}
+use Rattle.acorn_model.specs.Machine.{keyLength}
+use Rattle.acorn_model.specs.Message.{resultOf}
+use Rattle.acorn_model.proofs.Numbers.{lt-or-ge}
+use Rattle.acorn_model.proofs.Messages.{result-written, done-told}
+use Rattle.tape_model.specs.declared.Ticket.{Ticket}
+use Rattle.tape_model.specs.declared.Head.{Head}
+use Rattle.tape_model.specs.Ticket.{ticketLength, headRule}
+use Rattle.tape_model.specs.Tape.{ticketLimit, ticketsLength, emptyTapeLength, tapeLength, tapeOf, openRefusal}
+use Rattle.tape_model.specs.Listing.{headLine, ticketLines, totalLine, refusedLine, listingUnless, listing, printed}
+use Rattle.tape_model.specs.Laws.{Valid}
+use Rattle.tape_model.proofs.Tapes.{tapes-come-back}
+use Rattle.ticket.specs.Packing.{putInto}
+use Rattle.listing.specs.Contracts.{longestText}
+use Rattle.listing.specs.Laws.{longestInput, ListingFacts}
+use Rattle.listing.proofs.Longest.{longest}
+
+-- ## Where the key ends
+
+module _ (s : List ℕ) (r k : ℕ) (few : length s ≤ k → r ≡ length s) (many : k ≤ length s → r ≡ k) where
+  pub end-within : r ≤ length s
+  end-within = ⊎-elim (λ (p : length s < k). omega (arith, few (omega arith))) (λ (p : k ≤ length s). omega (arith, many p)) (lt-or-ge (length s) k)
+
+  pub same-front : take r s ≡ take k s
+  same-front =
+      ⊎-elim (λ (p : length s < k). ap (λ (n : ℕ). take n s) (few (omega arith)) ∙ take-length s ∙ sym (take-all k s (omega arith))) (λ (p : k ≤ length s). ap (λ (n : ℕ). take n s) (many p))
+      (lt-or-ge (length s) k)
+
+  pub same-rest : drop r s ≡ drop k s
+  same-rest =
+      ⊎-elim (λ (p : length s < k). ap (λ (n : ℕ). drop n s) (few (omega arith)) ∙ drop-length s ∙ sym (drop-of-length-le s {i = k} (omega arith))) (λ (p : k ≤ length s). ap (λ (n : ℕ). drop n s) (many p))
+      (lt-or-ge (length s) k)
+
+  pub input-printed : listing (take r s) (take (length s - r) (drop r s)) ≡ listing (take k s) (drop k s)
+  input-printed = ap₂ listing same-front (take-all (length s - r) (drop r s) (omega (arith, length-drop r s)) ∙ same-rest)
+
+-- ## Inputs that are too long
+
+too-many : (n : ℕ) → ticketLength * ticketLimit < n → ticketsLength n ≡ false
+unfolding ticketsLength
+too-many n h =
+    ⊎-elim (λ (p : ticketLimit < n / ticketLength). ap (λ (b : Bool). eqb (n % ticketLength) 0 && b) (lt-leb (n / ticketLength) ticketLimit p) ∙ none (eqb (n % ticketLength) 0))
+    (λ (p : n / ticketLength ≤ ticketLimit). ap (λ (b : Bool). b && leb (n / ticketLength) ticketLimit) (ne-eqb (n % ticketLength) 0 (λ e. omega arith)))
+    (lt-or-ge ticketLimit (n / ticketLength))
+  where
+    none : (b : Bool) → (b && false) ≡ false
+    none true = refl
+    none false = refl
+
+long-refused : (key tape : List ℕ) → emptyTapeLength + ticketLength * ticketLimit < length tape → listing key tape ≡ refusedLine 2
+unfolding listing listingUnless openRefusal tapeLength
+long-refused key tape h =
+    ap (λ (n : ℕ). listingUnless n key tape)
+    (by (eqb (length key) keyLength) (leb emptyTapeLength (length tape)) (ticketsLength (length tape - emptyTapeLength)) _ (too-many (length tape - emptyTapeLength) (omega arith)))
+  where
+    by : (a b c : Bool) (n : ℕ) → c ≡ false → (2 if not (a && (b && c)) else n) ≡ 2
+    by true true c n e = rw e
+    by true false c n e = refl
+    by false b c n e = refl
+
+too-long : (input : List ℕ) → longestInput < length input → printed input ≡ refusedLine 2
+unfolding printed
+too-long input h = long-refused (take keyLength input) (drop keyLength input) (omega (arith, length-drop keyLength input))
+
+printed-length : (input : List ℕ) → length (printed input) ≤ longestText
+unfolding printed
+printed-length input = longest (take keyLength input) (drop keyLength input)
+
+fits : (text out : List ℕ) → length text ≤ length out → putInto text out ≡ record { answer = done (length text); out = writtenOver text out }
+unfolding putInto
+fits text out room = result-written _ (length text) text out (rw (le-ltb (length out) (length text) room))
+
+-- a listing that was written into room for the longest lies within it
+pub listing-within : (input out : List ℕ) (n : ℕ) (after : List ℕ) → length out ≡ longestText → length after ≡ length out
+    → putInto (printed input) out ≡ record { answer = done n; out = after } → n ≤ length after
+unfolding putInto
+listing-within input out n after room same e = omega (arith, done-told _ (length (printed input)) (printed input) out n after e .1, printed-length input)
+
+pub listing-facts : ListingFacts
+listing-facts =
+    record {
+      longest = longest;
+      too-long = too-long;
+      read-enough = λ input n long within. too-long (take n input) (omega (arith, length-take n input)) ∙ sym (too-long input (omega arith));
+      tapes = λ key head tickets k h v few out room.
+          let e = tapes-come-back key head tickets k h v few .lists in
+          ap (λ (text : List ℕ). putInto text out) e ∙ fits _ out (omega (arith, room, ap length e, printed-length (key ++ tapeOf key head tickets)));
+    }

@@ -1,0 +1,6 @@
+pub mod Texts
+pub mod TicketLines
+pub mod Whole
+pub mod Opened
+pub mod Longest
+pub mod Inputs

@@ -1,0 +1,190 @@
+-- No listing is longer than 190,054 bytes: a head's line has at most 32, a ticket's line 38, and the line of totals 22.
+use mathlib.Core.Path.{_≡_, refl, ap, subst, _∙_}
+use mathlib.Core.Bool.{Bool, true, false, not, _&&_}
+use mathlib.Core.List.{List, [], _∷_, _++_}
+use Prim.Native.Nat.{ℕ, zero, suc, _+_, _-_, _*_, _/_, _%_, _^_, _≤_, _<_}
+use native.Mathlib.Omega.{arith}
+use lib.Dec.{eqb, ltb}
+use lib.ListN.{length, take, drop, replicate, length-append}
+use Rattle.acorn_model.specs.Bits.{_if_else_}
+use Rattle.acorn_model.specs.Calls.{Reply, refused, done}
+use Rattle.acorn_model.proofs.Choices.{both}
+use Rattle.tape_model.specs.declared.Ticket.{Ticket}
+use Rattle.tape_model.specs.declared.Head.{Head}
+use Rattle.tape_model.specs.Format.{widths, inRanges, unpack}
+use Rattle.tape_model.specs.Ticket.{form1, ticketLength, ticketOf, ordered, valuesRule, net, unpackTicket, headFormat, headLength, headOf, unpackHead}
+use Rattle.tape_model.specs.Tape.{ticketLimit, unpackTickets, isRefused, ticketsIn, totalNet, headBytes, ticketCount, plainBytes, openRefusal}
+use Rattle.tape_model.specs.Listing.{space, lineEnd, wordTape, wordTotal, wordRefused, decimalBelow, decimal, numbers, headLine, ticketLine, ticketLines, totalLine, refusedLine, listed, listingUnless, listing}
+use Rattle.tape_model.proofs.Ranges.{in-ranges}
+use Rattle.tape_model.proofs.Listing.{decimal-length}
+use Rattle.listing.specs.Contracts.{longestText}
+use Rattle.listing.proofs.TicketLines.{taken-apart, unpacked-count, told}
+use Rattle.listing.proofs.Opened.{size, tickets-good}
+
+-- ## Numbers
+
+number-length : (n : ℕ) (ns : List ℕ) → length (numbers (n ∷ ns)) ≡ 1 + length (decimal n) + length (numbers ns)
+unfolding numbers
+number-length n ns = length-append (space ++ decimal n) (numbers ns) ∙ omega arith
+
+no-numbers : length (numbers []) ≡ 0
+unfolding numbers
+no-numbers = refl
+
+line-length : (word ns : List ℕ) → length (word ++ numbers ns ++ lineEnd) ≡ length word + length (numbers ns) + 1
+line-length word ns = length-append (word ++ numbers ns) lineEnd ∙ ap (λ (k : ℕ). k + 1) (length-append word (numbers ns))
+
+-- ## Lines
+
+-- what is listed of a valid ticket is below these powers of ten
+record Short (t : Ticket) : Type 0 where
+  truck-short : t .truck < 10 ^ 4
+  shovel-short : t .shovel < 10 ^ 2
+  tip-short : t .tip < 10 ^ 2
+  grade-short : t .grade < 10 ^ 1
+  loaded-short : t .loaded < 10 ^ 5
+  tipped-short : t .tipped < 10 ^ 5
+  net-short : net t < 10 ^ 7
+  net-below : net t ≤ 1048575
+
+ticket-line-length : (p : ℕ) (t : Ticket) → p < 10 ^ 4 → Short t → length (ticketLine p t) ≤ 38
+unfolding ticketLine
+ticket-line-length p t small s =
+    let ns : List ℕ = t .truck ∷ t .shovel ∷ t .tip ∷ t .grade ∷ t .loaded ∷ t .tipped ∷ net t ∷ [] in
+    omega (
+      arith,
+      line-length (decimal p) ns,
+      decimal-length 3 p small,
+      number-length (t .truck) (t .shovel ∷ t .tip ∷ t .grade ∷ t .loaded ∷ t .tipped ∷ net t ∷ []),
+      number-length (t .shovel) (t .tip ∷ t .grade ∷ t .loaded ∷ t .tipped ∷ net t ∷ []),
+      number-length (t .tip) (t .grade ∷ t .loaded ∷ t .tipped ∷ net t ∷ []),
+      number-length (t .grade) (t .loaded ∷ t .tipped ∷ net t ∷ []),
+      number-length (t .loaded) (t .tipped ∷ net t ∷ []),
+      number-length (t .tipped) (net t ∷ []),
+      number-length (net t) [],
+      no-numbers,
+      decimal-length 3 (t .truck) (s .truck-short),
+      decimal-length 1 (t .shovel) (s .shovel-short),
+      decimal-length 1 (t .tip) (s .tip-short),
+      decimal-length 0 (t .grade) (s .grade-short),
+      decimal-length 4 (t .loaded) (s .loaded-short),
+      decimal-length 4 (t .tipped) (s .tipped-short),
+      decimal-length 6 (net t) (s .net-short),
+    )
+
+abbrev AllShort : List Ticket → Type 0
+AllShort [] = Unit {0}
+AllShort (t ∷ ts) = Short t × AllShort ts
+
+ticket-lines-length : (p : ℕ) (ts : List Ticket) → p + length ts ≤ 10 ^ 4 → AllShort ts → length (ticketLines p ts) ≤ 38 * length ts
+unfolding ticketLines
+ticket-lines-length p [] few s = omega arith
+ticket-lines-length p (t ∷ ts) few s =
+    omega (arith, length-append (ticketLine p t) (ticketLines (p + 1) ts), ticket-line-length p t (omega arith) (s .0), ticket-lines-length (p + 1) ts (omega arith) (s .1))
+
+total-net-bound : (ts : List Ticket) → AllShort ts → totalNet ts ≤ 1048575 * length ts
+unfolding totalNet
+total-net-bound [] s = omega arith
+total-net-bound (t ∷ ts) s = omega (arith, s .0 .net-below, total-net-bound ts (s .1))
+
+total-line-length : (ts : List Ticket) → length ts ≤ 5000 → AllShort ts → length (totalLine ts) ≤ 22
+unfolding totalLine
+total-line-length ts few s =
+    omega (
+      arith,
+      line-length wordTotal (length ts ∷ totalNet ts ∷ []),
+      number-length (length ts) (totalNet ts ∷ []),
+      number-length (totalNet ts) [],
+      no-numbers,
+      decimal-length 3 (length ts) (omega arith),
+      decimal-length 9 (totalNet ts) (omega (arith, total-net-bound ts s)),
+    )
+
+-- a number takes no more than the room for its digits
+digits-room : (room n : ℕ) → length (decimalBelow room n) ≤ room
+unfolding decimalBelow
+digits-room zero n = omega arith
+digits-room (suc room) n = by (ltb n 10) (digits-room room (n / 10))
+  where
+    by : (b : Bool) → length (decimalBelow room (n / 10)) ≤ room → length (((0x30 + n) ∷ []) if b else (decimalBelow room (n / 10) ++ ((0x30 + n % 10) ∷ []))) ≤ suc room
+    by true h = omega arith
+    by false h = omega (arith, h, length-append (decimalBelow room (n / 10)) ((0x30 + n % 10) ∷ []))
+
+refused-line-length : (n : ℕ) → length (refusedLine n) ≤ 29
+unfolding refusedLine
+refused-line-length n = omega (arith, line-length wordRefused (n ∷ []), number-length n [], no-numbers, digits-room 20 n)
+
+head-line-length : (h : Head) → h .device < 10 ^ 10 → h .shift < 10 ^ 7 → h .sheet < 10 ^ 7 → length (headLine h) ≤ 32
+unfolding headLine
+head-line-length h d s t =
+    omega (
+      arith,
+      line-length wordTape (h .device ∷ h .shift ∷ h .sheet ∷ []),
+      number-length (h .device) (h .shift ∷ h .sheet ∷ []),
+      number-length (h .shift) (h .sheet ∷ []),
+      number-length (h .sheet) [],
+      no-numbers,
+      decimal-length 9 (h .device) d,
+      decimal-length 6 (h .shift) s,
+      decimal-length 6 (h .sheet) t,
+    )
+
+-- ## What unpacks is short
+
+-- what an unpacking that was not refused comes to, by its two tests
+passed : {A : Type 0} (sized good : Bool) (n : ℕ) (a b : A) → (refused 2 if not sized else refused n if not good else done a) ≡ done b → (good ≡ true) × (a ≡ b)
+passed true true n a b e = (refl, cc)
+passed true false n a b e = let z : _≡_ {A = ℕ} 0 1 = cc in absurd (omega arith)
+passed false good n a b e = let z : _≡_ {A = ℕ} 0 1 = cc in absurd (omega arith)
+
+ticket-short : (string : List ℕ) (t : Ticket) → unpackTicket string ≡ done t → Short t
+unfolding unpackTicket valuesRule net
+ticket-short string t e =
+    let vs = unpack (widths form1) string in
+    let p = passed (eqb (length string) ticketLength) (valuesRule vs) 8 (ticketOf vs) t e in
+    let r = in-ranges form1 vs (both (inRanges form1 vs) (ordered (ticketOf vs)) (p .0) .0) in
+    subst Short (p .1)
+    (record {
+      truck-short = omega (arith, r .1 .0 .1);
+      shovel-short = omega (arith, r .1 .1 .0 .1);
+      tip-short = omega (arith, r .1 .1 .1 .0 .1);
+      grade-short = omega (arith, r .1 .1 .1 .1 .0 .1);
+      loaded-short = omega (arith, r .1 .1 .1 .1 .1 .0 .1);
+      tipped-short = omega (arith, r .1 .1 .1 .1 .1 .1 .0 .1);
+      net-short = omega (arith, r .1 .1 .1 .1 .1 .1 .1 .0 .1);
+      net-below = omega (arith, r .1 .1 .1 .1 .1 .1 .1 .0 .1);
+    })
+
+all-short : (n : ℕ) (string : List ℕ) (ts : List Ticket) → unpackTickets n string ≡ done ts → AllShort ts
+unfolding unpackTickets
+all-short zero string ts e = subst AllShort (ap ticketsIn e) tt
+all-short (suc n) string ts e =
+    taken-apart AllShort (unpackTicket (take ticketLength string)) (unpackTickets n (drop ticketLength string)) ts e
+    (λ t us f g. (ticket-short (take ticketLength string) t f, all-short n (drop ticketLength string) us g))
+
+head-short : (string : List ℕ) (h : Head) → unpackHead string ≡ done h → length (headLine h) ≤ 32
+unfolding unpackHead
+head-short string h e =
+    let vs = unpack (widths headFormat) string in
+    let p = passed (eqb (length string) headLength) (inRanges headFormat vs) 3 (headOf vs) h e in
+    let r = in-ranges headFormat vs (p .0) in
+    subst (λ (g : Head). length (headLine g) ≤ 32) (p .1) (head-line-length (headOf vs) (omega (arith, r .0 .1)) (omega (arith, r .1 .0 .1)) (omega (arith, r .1 .1 .0 .1)))
+
+-- ## The listing
+
+listed-length : (head : Reply Head) (ts : List Ticket) → ((h : Head) → head ≡ done h → length (headLine h) ≤ 32) → length ts ≤ ticketLimit → AllShort ts → length (listed head ts) ≤ longestText
+unfolding listed
+listed-length (refused n) ts h few s = omega (arith, refused-line-length n)
+listed-length (done h) ts short few s =
+    omega (arith, length-append (headLine h ++ ticketLines 1 ts) (totalLine ts), length-append (headLine h) (ticketLines 1 ts), short h refl, ticket-lines-length 1 ts (omega arith) s, total-line-length ts few s)
+
+pub longest : (key tape : List ℕ) → length (listing key tape) ≤ longestText
+unfolding listing listingUnless
+longest key tape = by (openRefusal key tape (replicate (length tape) 0)) refl
+  where
+    by : (n : ℕ) → openRefusal key tape (replicate (length tape) 0) ≡ n → length (listingUnless n key tape) ≤ longestText
+    by zero e =
+        let t = told (unpackTickets (ticketCount tape) (plainBytes key tape)) (tickets-good key tape _ e) in
+        listed-length (unpackHead (headBytes tape)) _ (head-short (headBytes tape))
+        (omega (arith, unpacked-count (ticketCount tape) (plainBytes key tape) _ t, size key tape _ e .few)) (all-short (ticketCount tape) (plainBytes key tape) _ t)
+    by (suc n) e = omega (arith, refused-line-length (suc n))

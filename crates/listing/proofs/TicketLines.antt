@@ -1,0 +1,166 @@
+-- A ticket's line from its parts, and the lines of the tickets that are left.
+use mathlib.Core.Path.{_≡_, refl, sym, ap, subst, _∙_}
+use mathlib.Core.Bool.{true, false}
+use mathlib.Core.List.{List, [], _∷_, _++_, append-assoc, append-nil}
+use Prim.Native.Nat.{ℕ, zero, suc, _+_, _-_, _*_, _/_, _≤_, _<_}
+use native.Mathlib.Omega.{arith}
+use lib.ListN.{length, getD, take, drop, length-append, take-append-drop}
+use lib.Seq.{take-all, take-suc, drop-drop, length-take-le}
+use borrow.Author.Tests.{lt-leb}
+use borrow.Rule.Slice.PartMut.{putMid}
+use Rattle.tape_model.specs.declared.Ticket.{Ticket}
+use mathlib.Core.Logic.{_⊎_, ⊎-elim}
+use denote.Enum.Declared.{declared, tagOf}
+use Rattle.tape_model.specs.declared.NextTicket.{NextTicket}
+use Rattle.tape_model.specs.declared.NextTicket.the-variants.{Refused, Done, End}
+use Rattle.tape_model.proofs.NextTicket.{enum as next-ticket}
+use Rattle.acorn_model.specs.Calls.{Reply, refused, done}
+use Rattle.tape_model.specs.Ticket.{unpackTicket}
+use Rattle.tape_model.specs.Tape.{ticketsLength, ticketThen, unpackTickets, isRefused, ticketsIn}
+use Rattle.tape_model.specs.Reader.{Reading, ticket, atEnd, handedOut, readNext, nextReply}
+use Rattle.tape_model.specs.Listing.{lineEnd, decimal, numbers, ticketLine, ticketLines}
+use Rattle.listing.specs.Contracts.{Wrote, ticketNumbers, unpacked, linesOf}
+use Rattle.listing.proofs.Texts.{wrote-as, behind-start, behind-room, behind-wrote, behind-within}
+
+-- ## One line
+
+module _ (position : ℕ) (t : Ticket) (ns out : List ℕ) (ns-are : ns ≡ ticketNumbers t) (room : length (ticketLine position t) ≤ length out) where
+  abbrev rest : List ℕ
+  rest = numbers ns ++ lineEnd
+
+  parts : decimal position ++ rest ≡ ticketLine position t
+  unfolding ticketLine ticketNumbers
+  parts = ap (λ (l : List ℕ). decimal position ++ (numbers l ++ lineEnd)) ns-are ∙ sym (append-assoc (decimal position) (numbers (ticketNumbers t)) lineEnd)
+
+  parts-room : length (decimal position ++ rest) ≤ length out
+  parts-room = omega (arith, ap length parts)
+
+  pub position-room : length (decimal position) ≤ length out
+  position-room = omega (arith, parts-room, length-append (decimal position) rest)
+
+  module _ (mid : List ℕ) (n : ℕ) (w : Wrote (decimal position) out n mid) where
+    pub rest-start : n ≤ length mid
+    rest-start = behind-start (decimal position) rest out mid n parts-room w
+
+    pub rest-room : length rest ≤ length (take (length mid - n) (drop n mid))
+    rest-room = behind-room (decimal position) rest out mid n parts-room w
+
+    module _ (r : ℕ) (part : List ℕ) (v : Wrote rest (take (length mid - n) (drop n mid)) r part) where
+      pub line-wrote : Wrote (ticketLine position t) out (n + r) (putMid n (length mid - n) mid part)
+      line-wrote = wrote-as parts (behind-wrote (decimal position) rest out mid n parts-room w r part v)
+
+      pub line-within : n + r ≤ length out
+      line-within = behind-within (decimal position) rest out mid n parts-room w r part v
+
+-- ## The tickets in opened bytes
+
+-- where tickets unpack, the first does and the others do
+pub taken-apart : (P : List Ticket → Type 0) (r : Reply Ticket) (others : Reply (List Ticket)) (ts : List Ticket) → ticketThen r others ≡ done ts
+    → ((t : Ticket) (us : List Ticket) → r ≡ done t → others ≡ done us → P (t ∷ us)) → P ts
+taken-apart P (refused n) others ts e k = let z : _≡_ {A = ℕ} 0 1 = cc in absurd (omega arith)
+taken-apart P (done t) (refused n) ts e k = let z : _≡_ {A = ℕ} 0 1 = cc in absurd (omega arith)
+taken-apart P (done t) (done us) ts e k = subst P (ap ticketsIn e) (k t us refl refl)
+
+pub unpacked-count : (n : ℕ) (s : List ℕ) (ts : List Ticket) → unpackTickets n s ≡ done ts → length ts ≡ n
+unfolding unpackTickets
+unpacked-count zero s ts e = sym (ap (λ (r : Reply (List Ticket)). length (ticketsIn r)) e)
+unpacked-count (suc n) s ts e =
+    taken-apart (λ l. length l ≡ suc n) (unpackTicket (take 13 s)) (unpackTickets n (drop 13 s)) ts e
+    (λ t us f g. ap suc (unpacked-count n (drop 13 s) us g))
+
+-- the ticket at i; the default is of no account
+unpacked-at : (n i : ℕ) (s : List ℕ) (ts : List Ticket) (t₀ : Ticket) → i < n → unpackTickets n s ≡ done ts → unpackTicket (take 13 (drop (13 * i) s)) ≡ done (getD ts i t₀)
+unfolding unpackTickets
+unpacked-at zero i s ts t₀ h e = absurd (omega arith)
+unpacked-at (suc n) zero s ts t₀ h e =
+    taken-apart (λ l. unpackTicket (take 13 s) ≡ done (getD l 0 t₀)) (unpackTicket (take 13 s)) (unpackTickets n (drop 13 s)) ts e (λ t us f g. f)
+unpacked-at (suc n) (suc i) s ts t₀ h e =
+    taken-apart (λ l. unpackTicket (take 13 (drop (13 * suc i) s)) ≡ done (getD l (suc i) t₀)) (unpackTicket (take 13 s)) (unpackTickets n (drop 13 s)) ts e
+    (λ t us f g. ap (λ (l : List ℕ). unpackTicket (take 13 l)) (ap (λ (k : ℕ). drop k s) {x = 13 * suc i} {y = 13 + 13 * i} (omega arith) ∙ sym (drop-drop (13 * i) 13 s)) ∙ unpacked-at n i (drop 13 s) us t₀ (omega arith) g)
+
+pub told : (r : Reply (List Ticket)) → isRefused r ≡ false → r ≡ done (ticketsIn r)
+told (refused n) h = let z : _≡_ {A = ℕ} 0 1 = cc in absurd (omega arith)
+told (done ts) h = refl
+
+-- ## Their lines
+
+lines-joined : (p : ℕ) (ts us : List Ticket) → ticketLines p (ts ++ us) ≡ ticketLines p ts ++ ticketLines (p + length ts) us
+unfolding ticketLines
+lines-joined p [] us = ap (λ (q : ℕ). ticketLines q us) {x = p} {y = p + 0} (omega arith)
+lines-joined p (t ∷ ts) us =
+    ap (λ (l : List ℕ). ticketLine p t ++ l) (lines-joined (p + 1) ts us ∙ ap (λ (q : ℕ). ticketLines (p + 1) ts ++ ticketLines q us) {x = p + 1 + length ts} {y = p + suc (length ts)} (omega arith))
+    ∙ sym (append-assoc (ticketLine p t) (ticketLines (p + 1) ts) (ticketLines (p + suc (length ts)) us))
+
+module _ (plain out : List ℕ) (sized : ticketsLength (length plain) ≡ true) (good : isRefused (unpacked plain) ≡ false) (room : length (linesOf plain) ≤ length out) where
+  abbrev tickets : List Ticket
+  tickets = ticketsIn (unpacked plain)
+
+  unpacks : unpackTickets (length plain / 13) plain ≡ done tickets
+  unfolding unpacked
+  unpacks = told (unpacked plain) good
+
+  count : length tickets ≡ length plain / 13
+  count = unpacked-count (length plain / 13) plain tickets unpacks
+
+  lines-within : (i : ℕ) → length (ticketLines 1 (take i tickets)) ≤ length out
+  unfolding linesOf
+  lines-within i =
+      let e = ap (λ (ts : List Ticket). length (ticketLines 1 ts)) (sym (take-append-drop i tickets)) ∙ ap length (lines-joined 1 (take i tickets) (drop i tickets))
+      ∙ length-append (ticketLines 1 (take i tickets)) (ticketLines (1 + length (take i tickets)) (drop i tickets)) in
+      omega (arith, e)
+
+  pub all-lines : (i at : ℕ) (after : List ℕ) → length plain / 13 ≤ i → Wrote (ticketLines 1 (take i tickets)) out at after → Wrote (linesOf plain) out at after
+  unfolding linesOf
+  all-lines i at after h w = wrote-as (ap (ticketLines 1) (take-all i tickets (omega (arith, count)))) w
+
+  module _ (i : ℕ) (here : i < length plain / 13) where
+    -- what the reader hands out there
+    handed : (t₀ : Ticket) → readNext (record { string = plain; position = i }) .answer ≡ done (ticket (getD tickets i t₀))
+    unfolding readNext handedOut
+    handed t₀ = rw (sized, lt-leb (length plain / 13) i here, unpacked-at (length plain / 13) i plain tickets t₀ here unpacks)
+
+    -- so the answer is a ticket
+    module _ (answer : NextTicket) (read : nextReply answer ≡ readNext (record { string = plain; position = i }) .answer) where
+      abbrev tag : ℕ
+      tag = tagOf (declared next-ticket) answer
+
+      pub not-else : (tag ≡ 0) ⊎ (tag ≡ 2) → ⊥
+      unfolding nextReply
+      not-else other = ⊎-elim (λ e. omega (arith, e, is-done answer (read ∙ handed no-ticket))) (λ e. omega (arith, e, is-done answer (read ∙ handed no-ticket))) other
+        where
+          no-ticket : Ticket
+          no-ticket = record { form = 0; truck = 0; shovel = 0; tip = 0; grade = 0; loaded = 0; tipped = 0; gross = 0; tare = 0 }
+
+          is-done : (a : NextTicket) → nextReply a ≡ done (ticket (getD tickets i no-ticket)) → tagOf (declared next-ticket) a ≡ 1
+          is-done (Refused n) e = let z : _≡_ {A = ℕ} 0 1 = cc in absurd (omega arith)
+          is-done (Done t) e = refl
+          is-done End e = let z : _≡_ {A = ℕ} 0 1 = cc in absurd (omega arith)
+
+    module _ (t : Ticket) (read : done (ticket t) ≡ readNext (record { string = plain; position = i }) .answer) (mid : List ℕ) (at : ℕ) (so-far : Wrote (ticketLines 1 (take i tickets)) out at mid) where
+      is-ticket : t ≡ getD tickets i t
+      is-ticket = let e : done (ticket t) ≡ done (ticket (getD tickets i t)) = read ∙ handed t in cc
+
+      one-more : ticketLines 1 (take i tickets) ++ ticketLine (i + 1) t ≡ ticketLines 1 (take (i + 1) tickets)
+      unfolding ticketLines
+      one-more =
+          ap (λ (l : List ℕ). ticketLines 1 (take i tickets) ++ l) (sym (append-nil (ticketLine (i + 1) t)) ∙ ap (λ (p : ℕ). ticketLines p (t ∷ [])) {x = i + 1} {y = 1 + length (take i tickets)} (omega (arith, length-take-le i tickets (omega (arith, count)))))
+          ∙ sym (lines-joined 1 (take i tickets) (t ∷ []))
+          ∙ ap (λ (u : Ticket). ticketLines 1 (take i tickets ++ (u ∷ []))) is-ticket
+          ∙ ap (ticketLines 1) (sym (take-suc tickets i t (omega (arith, count))))
+          ∙ ap (λ (k : ℕ). ticketLines 1 (take k tickets)) {x = suc i} {y = i + 1} (omega arith)
+
+      more-room : length (ticketLines 1 (take i tickets) ++ ticketLine (i + 1) t) ≤ length out
+      more-room = omega (arith, ap length one-more, lines-within (i + 1))
+
+      pub ticket-start : at ≤ length mid
+      ticket-start = behind-start (ticketLines 1 (take i tickets)) (ticketLine (i + 1) t) out mid at more-room so-far
+
+      pub ticket-room : length (ticketLine (i + 1) t) ≤ length (take (length mid - at) (drop at mid))
+      ticket-room = behind-room (ticketLines 1 (take i tickets)) (ticketLine (i + 1) t) out mid at more-room so-far
+
+      module _ (r : ℕ) (part : List ℕ) (w : Wrote (ticketLine (i + 1) t) (take (length mid - at) (drop at mid)) r part) where
+        pub ticket-wrote : Wrote (ticketLines 1 (take (i + 1) tickets)) out (at + r) (putMid at (length mid - at) mid part)
+        ticket-wrote = wrote-as one-more (behind-wrote (ticketLines 1 (take i tickets)) (ticketLine (i + 1) t) out mid at more-room so-far r part w)
+
+        pub ticket-within : at + r ≤ length out
+        ticket-within = behind-within (ticketLines 1 (take i tickets)) (ticketLine (i + 1) t) out mid at more-room so-far r part w

@@ -1,0 +1,130 @@
+-- `put_ticket_lines`: the lines of i tickets are written before each turn of the loop.
+use mathlib.Core.Path.{_≡_, sym, ap, _∙_}
+use Prim.Native.Nat.{_-_, _≤_}
+use native.Mathlib.Omega.{arith}
+use lib.ListN.{take}
+use borrow.Author.Needs.{needs}
+use Rattle.acorn_model.specs.Calls.{done}
+use Rattle.tape_model.specs.Reader.{ReadOutcome, ticket, readNext, nextReply}
+use Rattle.reader.specs.Contracts.{readerAt, stepOutcome}
+use Rattle.listing.proofs.Texts.{wrote-nothing, wrote-length}
+use Rattle.listing.proofs.TicketLines.{not-else, all-lines, ticket-start, ticket-room, ticket-wrote, ticket-within}
+use Rattle.tape_model.specs.Tape.{ticketsIn}
+use Rattle.tape_model.specs.Listing.{ticketLines}
+use Rattle.listing.specs.Contracts.{Wrote, unpacked}
+use Rattle.listing.proofs.lines.put_ticket_lines.Statement.{statement}
+use Rattle.listing.proofs.lines.put_ticket_lines.Tie as tie
+use Rattle.listing.proofs.lines.put_ticket_lines.Reads as reads
+use Rattle.listing.proofs.lines.put_ticket_lines.Lts as lts
+use Rattle.listing.proofs.lines.put_ticket_line.Reads as put-ticket-line-reads
+use Rattle.reader.proofs.read_at.Reads as read-at-reads
+
+abbrev Inv-loop : tie.InvT-loop
+Inv-loop plain out₀ tickets i₀ at₀ out i at = (i ≤ tickets) × Wrote (ticketLines 1 (take i (ticketsIn (unpacked plain)))) out₀ at out
+
+abbrev μ-loop : tie.MeasureT-loop
+μ-loop plain out₀ tickets i₀ at₀ out i at = tickets - i
+
+-- a reading that hands out no ticket is out of reach
+out-of-reach : tie.At-match-keys2 Inv-loop μ-loop → ⊥
+unfolding stepOutcome
+out-of-reach c =
+    let s = c .before .before .before .before .before .before in
+    let l = c .before .before .before .loop in
+    not-else (s .args .plain .now) (s .args .out .now) (s .pre .0) (s .pre .1) (s .pre .2) (l .i) (omega arith) _ (ap (λ (o : ReadOutcome). o .answer) (c .before .read-at .ensures)) (c .match .keys2)
+
+-- the ticket that was handed out
+was-read : (c : tie.After-known-told Inv-loop μ-loop)
+    → done (ticket (c .before .answer .given .0 .0)) ≡ readNext (readerAt (c .before .before .before .before .before .before .before .before .args .plain .now) (c .before .before .before .before .before .loop .i)) .answer
+unfolding stepOutcome nextReply
+was-read c = ap nextReply (sym (c .before .answer .given .1)) ∙ ap (λ (o : ReadOutcome). o .answer) (c .before .before .before .read-at .ensures)
+
+loop-holds : tie.Need-loop-holds Inv-loop μ-loop
+unfolding ticketLines
+loop-holds c = (omega arith, wrote-nothing (c .before .before .args .out .now))
+
+read-at-requires : tie.Need-read-at-requires Inv-loop μ-loop
+read-at-requires c κs = tt
+
+enum-known-answer : tie.Need-enum-known-answer Inv-loop μ-loop
+enum-known-answer c = search needs
+
+same-length : tie.Need-same-length Inv-loop μ-loop
+same-length c = absurd (out-of-reach c)
+
+returns : tie.Need-returns Inv-loop μ-loop
+returns c = absurd (out-of-reach c)
+
+add-put-ticket-line : tie.Need-add-put-ticket-line Inv-loop μ-loop
+add-put-ticket-line c = search needs
+
+sub-put-ticket-line : tie.Need-sub-put-ticket-line Inv-loop μ-loop
+sub-put-ticket-line c =
+    let l = c .before .before .before .before .before .loop in
+    let s = c .before .before .before .before .before .before .before .before in
+    ticket-start (s .args .plain .now) (s .args .out .now) (s .pre .0) (s .pre .1) (s .pre .2) (l .i) (omega arith) _ (was-read c) (l .out) (l .at) (l .inv .1)
+
+part-put-ticket-line-start : tie.Need-part-put-ticket-line-start Inv-loop μ-loop
+part-put-ticket-line-start c = sub-put-ticket-line c
+
+part-put-ticket-line-end : tie.Need-part-put-ticket-line-end Inv-loop μ-loop
+part-put-ticket-line-end c = search needs
+
+put-ticket-line-requires : tie.Need-put-ticket-line-requires Inv-loop μ-loop
+put-ticket-line-requires c κs =
+    let l = c .before .before .before .before .before .before .loop in
+    let s = c .before .before .before .before .before .before .before .before .before in
+    ticket-room (s .args .plain .now) (s .args .out .now) (s .pre .0) (s .pre .1) (s .pre .2) (l .i) (omega arith) _ (was-read (c .before)) (l .out) (l .at) (l .inv .1)
+
+add-at : tie.Need-add-at Inv-loop μ-loop
+add-at c =
+    let told = c .before .before .before .before in
+    let l = told .before .before .before .before .before .loop in
+    let s = told .before .before .before .before .before .before .before .before in
+    let within = ticket-within (s .args .plain .now) (s .args .out .now) (s .pre .0) (s .pre .1) (s .pre .2) (l .i) (omega arith) _ (was-read told) (l .out) (l .at) (l .inv .1) _ _ (c .before .before .put-ticket-line .ensures) in
+    search needs
+
+add-i : tie.Need-add-i Inv-loop μ-loop
+add-i c = search needs
+
+loop-less : tie.Need-loop-less Inv-loop μ-loop
+loop-less c = search needs
+
+loop-again : tie.Need-loop-again Inv-loop μ-loop
+loop-again c =
+    let told = c .before .before .before .before in
+    let l = told .before .before .before .before .before .loop in
+    let s = told .before .before .before .before .before .before .before .before in
+    (omega arith, ticket-wrote (s .args .plain .now) (s .args .out .now) (s .pre .0) (s .pre .1) (s .pre .2) (l .i) (omega arith) _ (was-read told) (l .out) (l .at) (l .inv .1) _ _ (c .before .before .put-ticket-line .ensures))
+
+returns-2 : tie.Need-returns-2 Inv-loop μ-loop
+returns-2 c =
+    let s = c .before .before .before .before in
+    let l = c .before .loop in
+    all-lines (s .args .plain .now) (s .args .out .now) (s .pre .0) (s .pre .1) (s .pre .2) (l .i) (l .at) (l .out) (omega arith) (l .inv .1)
+
+same-length-2 : tie.Need-same-length-2 Inv-loop μ-loop
+same-length-2 c = wrote-length (c .before .before .before .before .pre .2) (returns-2 c)
+
+pub put-ticket-lines-spec : {M : Type 1} → statement M
+put-ticket-lines-spec =
+    tie.close
+    (tie.spec
+    Inv-loop
+    μ-loop
+    loop-holds
+    read-at-requires
+    enum-known-answer
+    same-length
+    returns
+    add-put-ticket-line
+    sub-put-ticket-line
+    part-put-ticket-line-start
+    part-put-ticket-line-end
+    put-ticket-line-requires
+    add-at
+    add-i
+    loop-less
+    loop-again
+    same-length-2
+    returns-2)

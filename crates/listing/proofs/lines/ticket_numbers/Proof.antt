@@ -1,0 +1,49 @@
+use borrow.Author.Needs.{needs}
+use Rattle.listing.specs.Contracts.{ticketNumbers}
+use Rattle.listing.proofs.lines.ticket_numbers.Statement.{statement}
+use Rattle.listing.proofs.lines.ticket_numbers.Tie as tie
+use Rattle.listing.proofs.lines.ticket_numbers.Reads as reads
+use Rattle.listing.proofs.lines.ticket_numbers.Lts as lts
+use Rattle.ticket.proofs.net.Reads as net-reads
+
+-- src/lines.rt:46:9
+cast-t2 : tie.Need-cast-t2
+cast-t2 c = search needs
+
+-- src/lines.rt:47:9
+cast-t3 : tie.Need-cast-t3
+cast-t3 c = search needs
+
+-- src/lines.rt:48:9
+cast-t4 : tie.Need-cast-t4
+cast-t4 c = search needs
+
+-- src/lines.rt:49:9
+cast-t5 : tie.Need-cast-t5
+cast-t5 c = search needs
+
+-- src/lines.rt:50:9
+cast-t6 : tie.Need-cast-t6
+cast-t6 c = search needs
+
+-- src/lines.rt:51:9
+cast-t7 : tie.Need-cast-t7
+cast-t7 c = search needs
+
+-- src/lines.rt:52:9
+net-requires : tie.Need-net-requires
+net-requires c κs = search needs
+
+-- src/lines.rt:52:9
+cast-t9 : tie.Need-cast-t9
+cast-t9 c = search needs
+
+-- src/lines.rt:42:1
+returns : tie.Need-returns
+unfolding ticketNumbers
+returns c = cc
+
+pub ticket-numbers-spec : {M : Type 1} → statement M
+ticket-numbers-spec =
+    tie.close
+    (tie.spec cast-t2 cast-t3 cast-t4 cast-t5 cast-t6 cast-t7 net-requires cast-t9 returns)

@@ -1,0 +1,100 @@
+// The listing of a tape, as a text in ASCII: a line for its head, a line a ticket, and a line of totals; or the line of a refusal alone.
+mod lines;
+mod text;
+
+use acorn_model::Written;
+use lines::put_head_line;
+use lines::put_refused_line;
+use lines::put_ticket_lines;
+use lines::put_total_line;
+use tape::open_tape;
+use tape_model::Head;
+use tape_model::OpenedTape;
+use tape_model::UnpackedHead;
+ghost use mathlib.Core.Path.{_≡_};
+ghost use Prim.Native.Nat.{_≤_};
+ghost use lib.ListN.{length};
+ghost use Rattle.acorn_model.specs.Calls.{done, writtenReply};
+ghost use Rattle.acorn_model.specs.Machine.{keyLength};
+ghost use Rattle.tape_model.specs.Ticket.{headReply};
+ghost use Rattle.tape_model.specs.Tape.{ticketsIn};
+ghost use Rattle.tape_model.specs.Listing as model;
+ghost use Rattle.ticket.specs.Packing.{putInto};
+ghost use Rattle.listing.specs.Contracts.{Wrote, PlainTickets, unpacked, longestText, longestPlain};
+
+// Room for the text of every tape.
+pub fn text_buffer() -> [u8; 190054]
+    ensures { λ r. ⌜ length r ≡ longestText ⌝ }
+{
+    [0; 190054]
+}
+
+// Room for the plain bytes of every tape.
+fn plain_buffer() -> [u8; 65000]
+    ensures { λ r. ⌜ length r ≡ longestPlain ⌝ }
+{
+    [0; 65000]
+}
+
+// The listing of a tape with this head that opened to these bytes.
+fn put_listed(head: Head, plain: &[u8], net: u64, out: &mut [u8]) -> usize
+    requires { ⌜ PlainTickets (now plain) net × (length (model.listed (done head) (ticketsIn (unpacked (now plain)))) ≤ length (now out)) ⌝ }
+    ensures { λ r. ⌜ Wrote (model.listed (done head) (ticketsIn (unpacked (now (plain .entry))))) (now (out .entry)) r (now (out .exit)) ⌝ }
+{
+    let a = put_head_line(head, out);
+    let b = put_ticket_lines(plain, &mut out[a..]);
+    let at = a + b;
+    let c = put_total_line(plain.len() / 13, net, &mut out[at..]);
+    at + c
+}
+
+// The same, by what the head's bytes unpacked to.
+fn put_opened(head: UnpackedHead, plain: &[u8], net: u64, out: &mut [u8]) -> usize
+    requires { ⌜ PlainTickets (now plain) net × (length (model.listed (headReply head) (ticketsIn (unpacked (now plain)))) ≤ length (now out)) ⌝ }
+    ensures { λ r. ⌜ Wrote (model.listed (headReply head) (ticketsIn (unpacked (now (plain .entry))))) (now (out .entry)) r (now (out .exit)) ⌝ }
+{
+    match head {
+        UnpackedHead::Refused(number) => put_refused_line(number, out),
+        UnpackedHead::Done(h) => put_listed(h, plain, net, out),
+    }
+}
+
+// The listing of a tape, whose tickets are opened into plain.
+fn put_text(key: &[u8], tape: &[u8], plain: &mut [u8], out: &mut [u8]) -> usize
+    requires { ⌜ (longestPlain ≤ length (now plain)) × (longestText ≤ length (now out)) ⌝ }
+    ensures { λ r. ⌜ Wrote (model.listing (now (key .entry)) (now (tape .entry))) (now (out .entry)) r (now (out .exit)) ⌝ }
+{
+    match open_tape(key, tape, plain) {
+        OpenedTape::Refused(number) => put_refused_line(number, out),
+        OpenedTape::Done(tickets, net) => {
+            let n = 13 * tickets;
+            let head = ticket::unpack_head(&tape[..9]);
+            put_opened(head, &plain[..n], net, out)
+        }
+    }
+}
+
+// Writes the listing of a tape: 6 where the output is too short for it, and nothing is written.
+pub fn list_tape(key: &[u8], tape: &[u8], out: &mut [u8]) -> Written
+    ensures { λ r. ⌜ putInto (model.listing (now (key .entry)) (now (tape .entry))) (now (out .entry)) ≡ record { answer = writtenReply r; out = now (out .exit) } ⌝ }
+{
+    let mut plain = plain_buffer();
+    let mut text = text_buffer();
+    let n = put_text(key, tape, &mut plain, &mut text);
+    ticket::put(&text[..n], out)
+}
+
+// Where the key of an input ends: after 16 bytes, or after all where there are fewer.
+fn key_end(n: usize) -> usize
+    ensures { λ r. ⌜ (n ≤ keyLength → r ≡ n) × (keyLength ≤ n → r ≡ keyLength) ⌝ }
+{
+    if n < 16 { n } else { 16 }
+}
+
+// The same of a program's input: the key's 16 bytes, and then a tape.
+pub fn list_input(input: &[u8], out: &mut [u8]) -> Written
+    ensures { λ r. ⌜ putInto (model.printed (now (input .entry))) (now (out .entry)) ≡ record { answer = writtenReply r; out = now (out .exit) } ⌝ }
+{
+    let n = key_end(input.len());
+    list_tape(&input[..n], &input[n..], out)
+}
