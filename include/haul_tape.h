@@ -1,0 +1,142 @@
+/* The haul tape library: ACORN-128 v3, haul tickets and shift tapes. Link libhaul_tape.a.
+ *
+ * Nothing here allocates or keeps anything: sessions and writers are structs of words that the caller places, and every
+ * buffer comes with its length. No call reads or writes beyond the lengths given. Buffers of one call must not overlap, and
+ * a pointer must not be null, not even with length 0.
+ *
+ * A key and nonce must serve one message only, and a key and head one tape only: the caller sees to that.
+ *
+ * Each answer has a field `refused`: 0 where the call was done, else the number that sent it back. The smallest number that
+ * applies is given. A refused call changes nothing, neither its struct nor any buffer; but a wrong tag (7) closes a checking
+ * session.
+ *
+ *   1  the call does not fit the phase, or is meant for the other kind of session
+ *   2  a key, nonce or tag that is not 16 bytes; sealed bytes under 16; a tape that is not 25 + 13n bytes, or tickets' bytes
+ *      that are not 13n, with n at most 5,000; a packed ticket that is not 13 bytes, a packed head that is not 9
+ *   3  a head field outside its range
+ *   4  a ticket to be written breaks a rule
+ *   5  more than 65,536 bytes of data, or of text; a 5,001st ticket
+ *   6  the output is too short
+ *   7  the tag differs
+ *   8  a ticket does not unpack
+ */
+#ifndef HAUL_TAPE_H
+#define HAUL_TAPE_H
+
+#include <stddef.h>
+#include <stdint.h>
+
+#ifdef __cplusplus
+extern "C" {
+#endif
+
+#define HT_KEY_BYTES 16
+#define HT_NONCE_BYTES 16
+#define HT_TAG_BYTES 16
+#define HT_TICKET_BYTES 13
+#define HT_HEAD_BYTES 9
+#define HT_MOST_BYTES 65536    /* of data, and of text, in one message */
+#define HT_MOST_TICKETS 5000   /* on one tape */
+#define HT_MOST_TAPE_BYTES 65025
+#define HT_MOST_PLAIN_BYTES 65000
+#define HT_MOST_LISTING_BYTES 190054
+
+/* ---- answers ---- */
+
+/* of a call that writes: the bytes at the start of its output; nothing behind them changes */
+typedef struct { uint32_t refused; uint64_t bytes; } ht_written;
+
+/* of a call on a session or writer: the same, and the steps run since it was fresh */
+typedef struct { uint32_t refused; uint64_t bytes; uint64_t steps; } ht_answer;
+
+/* of opening a tape */
+typedef struct { uint32_t refused; uint64_t tickets; uint64_t net; } ht_opened;
+
+/* ---- whole messages ---- */
+
+/* Writes the ciphertext of the text and then the tag: textlen + 16 bytes. 2, 5, 6. */
+ht_written ht_seal(const uint8_t *key, size_t keylen, const uint8_t *nonce, size_t noncelen, const uint8_t *data, size_t datalen,
+    const uint8_t *text, size_t textlen, uint8_t *out, size_t outlen);
+
+/* Takes what ht_seal wrote, and writes the text once the tag is known to match: sealedlen - 16 bytes. 2, 5, 6, 7. */
+ht_written ht_open(const uint8_t *key, size_t keylen, const uint8_t *nonce, size_t noncelen, const uint8_t *data, size_t datalen,
+    const uint8_t *sealed, size_t sealedlen, uint8_t *out, size_t outlen);
+
+/* ---- sessions: a message in pieces ---- */
+
+/* A session. Its words are its own: set it by one of the two calls below, and copy it only to go on from one of the copies. */
+typedef struct { uint64_t words[10]; } ht_session;
+
+void ht_session_fresh_sealing(ht_session *s);
+void ht_session_fresh_checking(ht_session *s);
+
+/* begin, then data any number of times, then text any number of times, then close. An empty text ends the data, too. */
+ht_answer ht_session_begin(ht_session *s, const uint8_t *key, size_t keylen, const uint8_t *nonce, size_t noncelen); /* 1, 2 */
+ht_answer ht_session_data(ht_session *s, const uint8_t *piece, size_t piecelen);                                     /* 1, 5 */
+
+/* sealing: writes the ciphertext of the piece; the close writes the tag */
+ht_answer ht_session_seal_text(ht_session *s, const uint8_t *piece, size_t piecelen, uint8_t *out, size_t outlen); /* 1, 5, 6 */
+ht_answer ht_session_seal_close(ht_session *s, uint8_t *out, size_t outlen);                                       /* 1, 6 */
+
+/* checking: takes ciphertext and writes nothing; the close is given the tag. 7 closes the session, too. */
+ht_answer ht_session_check_text(ht_session *s, const uint8_t *piece, size_t piecelen); /* 1, 5 */
+ht_answer ht_session_check_close(ht_session *s, const uint8_t *tag, size_t taglen);    /* 1, 2, 7 */
+
+/* ---- tickets and heads ---- */
+
+/* form 1; truck 1 to 1,023; shovel and tip 1 to 63; grade 0 to 9; loaded and tipped 0 to 43,199, in seconds of the shift, loaded
+ * at most tipped; gross and tare 0 to 1,048,575 kg, tare below gross */
+typedef struct {
+    uint8_t form;
+    uint16_t truck;
+    uint8_t shovel;
+    uint8_t tip;
+    uint8_t grade;
+    uint32_t loaded;
+    uint32_t tipped;
+    uint32_t gross;
+    uint32_t tare;
+} ht_ticket;
+
+/* device 1 to 4,294,967,295; shift and sheet 1 to 1,000,000 */
+typedef struct { uint32_t device; uint32_t shift; uint32_t sheet; } ht_head;
+
+/* zeros in place of the ticket or head where refused */
+typedef struct { uint32_t refused; ht_ticket ticket; } ht_unpacked_ticket;
+typedef struct { uint32_t refused; ht_head head; } ht_unpacked_head;
+
+ht_written ht_pack_ticket(ht_ticket ticket, uint8_t *out, size_t outlen);                 /* 4, 6 */
+ht_unpacked_ticket ht_unpack_ticket(const uint8_t *packed, size_t packedlen);             /* 2, 8 */
+ht_written ht_pack_head(ht_head head, uint8_t *out, size_t outlen);                       /* 3, 6 */
+ht_unpacked_head ht_unpack_head(const uint8_t *packed, size_t packedlen);                 /* 2, 3 */
+
+/* ---- tapes ---- */
+
+/* A tape's writer: start, add for each ticket, finish. Each writes its part of the tape at the start of its output: 9 bytes, 13
+ * bytes, 16 bytes. */
+typedef struct { uint64_t words[12]; } ht_writer;
+
+void ht_writer_fresh(ht_writer *w);
+ht_answer ht_writer_start(ht_writer *w, const uint8_t *key, size_t keylen, ht_head head, uint8_t *out, size_t outlen); /* 1, 2, 3, 6 */
+ht_answer ht_writer_add(ht_writer *w, ht_ticket ticket, uint8_t *out, size_t outlen);                                  /* 1, 4, 5, 6 */
+ht_answer ht_writer_finish(ht_writer *w, uint8_t *out, size_t outlen);                                                 /* 1, 6 */
+
+/* Opens a tape: writes 13 plain bytes for each ticket, once the tag is known to match and every ticket has unpacked; answers the
+ * number of tickets and their total net. Uses up to 64 KiB of the stack. 2, 3, 6, 7, 8. */
+ht_opened ht_open_tape(const uint8_t *key, size_t keylen, const uint8_t *tape, size_t tapelen, uint8_t *out, size_t outlen);
+
+/* The ticket at a position of opened bytes, counted from 0. At the end at_end is 1, and there is no ticket. The position
+ * after the call is where the next call goes on; where refused or at the end it stays. 2, 8. */
+typedef struct { uint32_t refused; uint32_t at_end; uint64_t position; ht_ticket ticket; } ht_reading;
+
+ht_reading ht_read_ticket(const uint8_t *plain, size_t plainlen, uint64_t position);
+
+/* The listing of a tape as ASCII text: 'TAPE', device, shift and sheet; a line a ticket; 'TOTAL', tickets and total net. Of a tape
+ * that does not open the text is 'REFUSED' and the number, and the call is done. 6 where the text does not fit. Uses up to 320 KiB
+ * of the stack. */
+ht_written ht_list_tape(const uint8_t *key, size_t keylen, const uint8_t *tape, size_t tapelen, uint8_t *out, size_t outlen);
+
+#ifdef __cplusplus
+}
+#endif
+#endif
