@@ -1,3 +1,4 @@
 pub mod Wrapping
 pub mod NextSession
 pub mod Replies
+pub mod WordsBack

@@ -2,6 +2,7 @@
 // that the call wrote and the steps run since the session was fresh. A refused call changes nothing, but that a wrong tag closes.
 mod phase_runs;
 mod refusal;
+mod words;
 
 use acorn::State;
 use acorn::absorb_data;

@@ -1,0 +1,75 @@
+-- A session in ten words, for callers that cannot hold the struct. Any ten words stand for a session.
+use mathlib.Core.Bool.{_||_}
+use mathlib.Core.List.{List, [], _∷_}
+use Prim.Native.Nat.{ℕ}
+use lib.Dec.{eqb, ltb}
+use lib.ListN.{getD}
+use Rattle.acorn_model.specs.declared.Kind.{Kind}
+use Rattle.acorn_model.specs.declared.Kind.the-variants.{Sealing, Checking}
+use Rattle.acorn_model.specs.declared.Phase.{Phase}
+use Rattle.acorn_model.specs.declared.Phase.the-variants.{Fresh, Data, Text, Closed}
+use Rattle.acorn_model.specs.Bits.{_if_else_}
+use Rattle.acorn_model.specs.Machine.{Machine}
+use Rattle.session.specs.declared.Session.{Session}
+use Rattle.session.specs.Contracts.{machineOf}
+
+-- ## Kind and phase in one number: any but those listed is a closed checking session
+
+abbrev pub numberOf : Kind → Phase → ℕ
+numberOf Sealing Fresh = 0
+numberOf Sealing Data = 1
+numberOf Sealing Text = 2
+numberOf Sealing Closed = 3
+numberOf Checking Fresh = 4
+numberOf Checking Data = 5
+numberOf Checking Text = 6
+numberOf Checking Closed = 7
+
+abbrev pub kindIn : ℕ → Kind
+kindIn n = Sealing if ltb n 4 else Checking
+
+abbrev pub phaseIn : ℕ → Phase
+phaseIn n =
+    Fresh if eqb n 0 || eqb n 4 else
+    Data if eqb n 1 || eqb n 5 else
+    Text if eqb n 2 || eqb n 6 else
+    Closed
+
+-- ## The ten words
+
+-- the state's six, the bytes of data and of text, the steps, the number of kind and phase
+unfoldable pub wordsOf : Session → List ℕ
+wordsOf s =
+    s .state .w0
+    ∷ s .state .w1
+    ∷ s .state .w2
+    ∷ s .state .w3
+    ∷ s .state .w4
+    ∷ s .state .w5
+    ∷ s .«data_bytes»
+    ∷ s .«text_bytes»
+    ∷ s .steps
+    ∷ numberOf (s .kind) (s .phase)
+    ∷ []
+
+unfoldable pub sessionIn : List ℕ → Session
+sessionIn words =
+    record {
+      state = record {
+        w0 = getD words 0 0;
+        w1 = getD words 1 0;
+        w2 = getD words 2 0;
+        w3 = getD words 3 0;
+        w4 = getD words 4 0;
+        w5 = getD words 5 0;
+      };
+      «data_bytes» = getD words 6 0;
+      «text_bytes» = getD words 7 0;
+      steps = getD words 8 0;
+      kind = kindIn (getD words 9 0);
+      phase = phaseIn (getD words 9 0);
+    }
+
+-- the machine that ten words stand for
+unfoldable pub machineIn : List ℕ → Machine
+machineIn words = machineOf (sessionIn words)

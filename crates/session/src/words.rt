@@ -1,0 +1,96 @@
+// A session in ten words, for callers that cannot hold the struct. Any ten words are read as some session.
+use super::Session;
+use acorn::State;
+use acorn_model::Kind;
+use acorn_model::Phase;
+ghost use mathlib.Core.Path.{_≡_};
+ghost use Rattle.session.specs.Words.{numberOf, kindIn, phaseIn, wordsOf, sessionIn};
+
+// Kind and phase in one number.
+fn number(kind: Kind, phase: Phase) -> u64
+    ensures { λ r. ⌜ r ≡ numberOf kind phase ⌝ }
+{
+    match kind {
+        Kind::Sealing => match phase {
+            Phase::Fresh => 0,
+            Phase::Data => 1,
+            Phase::Text => 2,
+            Phase::Closed => 3,
+        },
+        Kind::Checking => match phase {
+            Phase::Fresh => 4,
+            Phase::Data => 5,
+            Phase::Text => 6,
+            Phase::Closed => 7,
+        },
+    }
+}
+
+fn kind_in(n: u64) -> Kind
+    ensures { λ r. ⌜ r ≡ kindIn n ⌝ }
+{
+    if n < 4 {
+        Kind::Sealing
+    } else {
+        Kind::Checking
+    }
+}
+
+fn phase_in(n: u64) -> Phase
+    ensures { λ r. ⌜ r ≡ phaseIn n ⌝ }
+{
+    if (n == 0) | (n == 4) {
+        return Phase::Fresh;
+    }
+    if (n == 1) | (n == 5) {
+        return Phase::Data;
+    }
+    if (n == 2) | (n == 6) {
+        return Phase::Text;
+    }
+    Phase::Closed
+}
+
+impl Session {
+    // The session that ten words hold.
+    pub fn from_words(words: &[u64; 10]) -> Session
+        ensures { λ r. ⌜ r ≡ sessionIn (now (words .entry)) ⌝ }
+    {
+        Session {
+            state: State {
+                w0: words[0],
+                w1: words[1],
+                w2: words[2],
+                w3: words[3],
+                w4: words[4],
+                w5: words[5],
+            },
+            data_bytes: words[6],
+            text_bytes: words[7],
+            steps: words[8],
+            kind: kind_in(words[9]),
+            phase: phase_in(words[9]),
+        }
+    }
+
+    // The words of a session.
+    pub fn words(self) -> [u64; 10]
+        ensures { λ r. ⌜ r ≡ wordsOf self ⌝ }
+    {
+        let s = self.state;
+        let kind = self.kind;
+        let phase = self.phase;
+        [
+            s.w0,
+            s.w1,
+            s.w2,
+            s.w3,
+            s.w4,
+            s.w5,
+            self.data_bytes,
+            self.text_bytes,
+            self.steps,
+            number(kind, phase),
+        ]
+    }
+}
