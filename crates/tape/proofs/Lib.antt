@@ -5,3 +5,4 @@ pub mod Within
 pub mod Sizes
 pub mod Decrypting
 pub mod OpenedParts
+pub mod WriterBack

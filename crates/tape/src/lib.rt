@@ -2,6 +2,7 @@
 // a refusal number, or the bytes that the call wrote and the steps run since the writer was fresh. A refused call changes nothing.
 mod opening;
 mod refusal;
+mod words;
 
 use acorn_model::Answer;
 use acorn_model::Kind;

@@ -1,4 +1,5 @@
 // Tickets and heads by value, the phases of a tape's writer, and the answers of calls on tickets and tapes.
+#[repr(C)]
 pub struct Ticket {
     pub form: u8,
     pub truck: u16,
@@ -11,6 +12,7 @@ pub struct Ticket {
     pub tare: u32,
 }
 
+#[repr(C)]
 pub struct Head {
     pub device: u32,
     pub shift: u32,

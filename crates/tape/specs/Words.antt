@@ -1,0 +1,38 @@
+-- A writer in twelve words, for callers that cannot hold the struct. Any twelve words stand for a writer.
+use mathlib.Core.List.{List, [], _∷_, _++_}
+use Prim.Native.Nat.{ℕ}
+use lib.Dec.{eqb}
+use lib.ListN.{getD}
+use Rattle.acorn_model.specs.Bits.{_if_else_}
+use Rattle.tape_model.specs.declared.WriterPhase.{WriterPhase}
+use Rattle.tape_model.specs.declared.WriterPhase.the-variants.{Fresh, Open, Closed}
+use Rattle.tape_model.specs.Writer.{PlainWriter}
+use Rattle.session.specs.Words as session
+use Rattle.tape.specs.declared.Writer.{Writer}
+use Rattle.tape.specs.Contracts.{writerOf}
+
+-- ## The phase as a number: any but those listed is closed
+
+abbrev pub phaseNumber : WriterPhase → ℕ
+phaseNumber Fresh = 0
+phaseNumber Open = 1
+phaseNumber Closed = 2
+
+abbrev pub phaseIn : ℕ → WriterPhase
+phaseIn n =
+    Fresh if eqb n 0 else
+    Open if eqb n 1 else
+    Closed
+
+-- ## The twelve words
+
+-- the session's ten, the tickets added, the number of the phase
+unfoldable pub writerWords : Writer → List ℕ
+writerWords w = session.wordsOf (w .session) ++ (w .tickets ∷ phaseNumber (w .phase) ∷ [])
+
+unfoldable pub writerIn : List ℕ → Writer
+writerIn words = record { session = session.sessionIn words; tickets = getD words 10 0; phase = phaseIn (getD words 11 0) }
+
+-- the plain writer that twelve words stand for
+unfoldable pub plainWriterIn : List ℕ → PlainWriter
+plainWriterIn words = writerOf (writerIn words)
