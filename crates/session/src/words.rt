@@ -29,11 +29,7 @@ fn number(kind: Kind, phase: Phase) -> u64
 fn kind_in(n: u64) -> Kind
     ensures { λ r. ⌜ r ≡ kindIn n ⌝ }
 {
-    if n < 4 {
-        Kind::Sealing
-    } else {
-        Kind::Checking
-    }
+    if n < 4 { Kind::Sealing } else { Kind::Checking }
 }
 
 fn phase_in(n: u64) -> Phase

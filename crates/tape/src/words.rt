@@ -33,8 +33,16 @@ impl Writer {
         ensures { λ r. ⌜ r ≡ writerIn (now (words .entry)) ⌝ }
     {
         let first = [
-            words[0], words[1], words[2], words[3], words[4], words[5], words[6], words[7],
-            words[8], words[9],
+            words[0],
+            words[1],
+            words[2],
+            words[3],
+            words[4],
+            words[5],
+            words[6],
+            words[7],
+            words[8],
+            words[9],
         ];
         Writer {
             session: Session::from_words(&first),

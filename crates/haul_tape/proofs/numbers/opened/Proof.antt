@@ -1,0 +1,31 @@
+-- `opened` meets its contract.
+use borrow.Author.Needs.{needs}
+use Rattle.tape_model.specs.Tape.{openedReply}
+use Rattle.haul_tape.specs.Contracts.{openedNumbers}
+use Rattle.haul_tape.proofs.numbers.opened.Statement.{statement}
+use Rattle.haul_tape.proofs.numbers.opened.Tie as tie
+
+enum-known-answer : tie.Need-enum-known-answer
+enum-known-answer c = search needs
+
+wide-requires : tie.Need-wide-requires
+wide-requires c κs = search needs
+
+enum-known-answer-2 : tie.Need-enum-known-answer-2
+enum-known-answer-2 c = search needs
+
+size-requires : tie.Need-size-requires
+size-requires c κs = search needs
+
+returns : tie.Need-returns
+unfolding openedNumbers openedReply
+returns c = cc
+
+returns-2 : tie.Need-returns-2
+unfolding openedNumbers openedReply
+returns-2 c = cc
+
+pub opened-spec : {M : Type 1} → statement M
+opened-spec =
+    tie.close
+    (tie.spec enum-known-answer wide-requires enum-known-answer-2 size-requires returns returns-2)

@@ -1,0 +1,272 @@
+// The interface for C, as include/haul_tape.h declares it and in its order. Nothing is asked of the caller but what the header says of pointers:
+// any numbers and any words are taken, and each call's contract is an equation against the definitions of the library's own.
+mod numbers;
+
+use acorn_model::Kind;
+use numbers::answered;
+use numbers::index;
+use numbers::opened;
+use numbers::reading;
+use numbers::unpacked_head;
+use numbers::unpacked_ticket;
+use numbers::written;
+use session::Reply;
+use session::Session;
+use tape::Writer;
+use tape::WriterReply;
+use tape_model::Head;
+use tape_model::Ticket;
+ghost use mathlib.Core.Path.{_≡_};
+ghost use mathlib.Core.List.{[]};
+ghost use Rattle.acorn_model.specs.declared.Kind.the-variants.{Sealing, Checking};
+ghost use Rattle.acorn_model.specs.Calls.{answerReply};
+ghost use Rattle.acorn_model.specs.Machine as machine;
+ghost use Rattle.acorn_model.specs.Message.{sealMessage, openMessage};
+ghost use Rattle.tape_model.specs.Ticket.{packTicketInto, unpackTicket, packHeadInto, unpackHead};
+ghost use Rattle.tape_model.specs.Tape.{openTape};
+ghost use Rattle.tape_model.specs.Writer as plain;
+ghost use Rattle.tape_model.specs.Reader.{readNext};
+ghost use Rattle.session.specs.Contracts.{machineOf};
+ghost use Rattle.session.specs.Words.{machineIn};
+ghost use Rattle.tape.specs.Contracts.{writerOf};
+ghost use Rattle.tape.specs.Words.{plainWriterIn};
+ghost use Rattle.reader.specs.Contracts.{readerAt};
+ghost use Rattle.haul_tape.specs.Contracts.{writtenNumbers, answerNumbers, openedNumbers, ticketNumbers, headNumbers, readNumbers, SessionSeen, WriterSeen, ResultSeen};
+
+// ---- answers ----
+
+#[repr(C)]
+pub struct HtWritten {
+    pub refused: u32,
+    pub bytes: u64,
+}
+
+#[repr(C)]
+pub struct HtAnswer {
+    pub refused: u32,
+    pub bytes: u64,
+    pub steps: u64,
+}
+
+#[repr(C)]
+pub struct HtOpened {
+    pub refused: u32,
+    pub tickets: u64,
+    pub net: u64,
+}
+
+#[repr(C)]
+pub struct HtUnpackedTicket {
+    pub refused: u32,
+    pub ticket: Ticket,
+}
+
+#[repr(C)]
+pub struct HtUnpackedHead {
+    pub refused: u32,
+    pub head: Head,
+}
+
+#[repr(C)]
+pub struct HtReading {
+    pub refused: u32,
+    pub at_end: u32,
+    pub position: u64,
+    pub ticket: Ticket,
+}
+
+// ---- whole messages ----
+
+#[no_mangle]
+pub extern "C" fn ht_seal(
+    key: &[u8],
+    nonce: &[u8],
+    data: &[u8],
+    text: &[u8],
+    out: &mut [u8],
+) -> HtWritten
+    ensures { λ r. ⌜ ResultSeen writtenNumbers (sealMessage (now (key .entry)) (now (nonce .entry)) (now («data» .entry)) (now (text .entry)) (now (out .entry))) r (now (out .exit)) ⌝ }
+{
+    written(message::seal(key, nonce, data, text, out))
+}
+
+#[no_mangle]
+pub extern "C" fn ht_open(
+    key: &[u8],
+    nonce: &[u8],
+    data: &[u8],
+    sealed: &[u8],
+    out: &mut [u8],
+) -> HtWritten
+    ensures { λ r. ⌜ ResultSeen writtenNumbers (openMessage (now (key .entry)) (now (nonce .entry)) (now («data» .entry)) (now (sealed .entry)) (now (out .entry))) r (now (out .exit)) ⌝ }
+{
+    written(message::open(key, nonce, data, sealed, out))
+}
+
+// ---- sessions: a message in pieces ----
+
+#[no_mangle]
+pub extern "C" fn ht_session_fresh_sealing(s: &mut [u64; 10])
+    ensures { λ _. ⌜ machineIn (now (s .exit)) ≡ machine.fresh Sealing ⌝ }
+{
+    *s = Session::fresh(Kind::Sealing).words();
+}
+
+#[no_mangle]
+pub extern "C" fn ht_session_fresh_checking(s: &mut [u64; 10])
+    ensures { λ _. ⌜ machineIn (now (s .exit)) ≡ machine.fresh Checking ⌝ }
+{
+    *s = Session::fresh(Kind::Checking).words();
+}
+
+// The session after a call goes back into its words, and the answer into numbers.
+fn session_handed_back(s: &mut [u64; 10], reply: Reply) -> HtAnswer
+    ensures { λ r. ⌜ r ≡ answerNumbers (answerReply (reply .answer)) ⌝ }
+    ensures { λ _. ⌜ machineIn (now (s .exit)) ≡ machineOf (reply .session) ⌝ }
+{
+    let after = reply.session;
+    let answer = reply.answer;
+    *s = after.words();
+    answered(answer)
+}
+
+#[no_mangle]
+pub extern "C" fn ht_session_begin(s: &mut [u64; 10], key: &[u8], nonce: &[u8]) -> HtAnswer
+    ensures { λ r. ⌜ SessionSeen (now (s .entry)) (machine.begin (now (key .entry)) (now (nonce .entry))) (now (s .exit)) r [] ⌝ }
+{
+    let reply = Session::from_words(s).begin(key, nonce);
+    session_handed_back(s, reply)
+}
+
+#[no_mangle]
+pub extern "C" fn ht_session_data(s: &mut [u64; 10], piece: &[u8]) -> HtAnswer
+    ensures { λ r. ⌜ SessionSeen (now (s .entry)) (machine.dataCall (now (piece .entry))) (now (s .exit)) r [] ⌝ }
+{
+    let reply = Session::from_words(s).data(piece);
+    session_handed_back(s, reply)
+}
+
+#[no_mangle]
+pub extern "C" fn ht_session_seal_text(s: &mut [u64; 10], piece: &[u8], out: &mut [u8]) -> HtAnswer
+    ensures { λ r. ⌜ SessionSeen (now (s .entry)) (machine.sealText (now (piece .entry)) (now (out .entry))) (now (s .exit)) r (now (out .exit)) ⌝ }
+{
+    let reply = Session::from_words(s).seal_text(piece, out);
+    session_handed_back(s, reply)
+}
+
+#[no_mangle]
+pub extern "C" fn ht_session_seal_close(s: &mut [u64; 10], out: &mut [u8]) -> HtAnswer
+    ensures { λ r. ⌜ SessionSeen (now (s .entry)) (machine.sealClose (now (out .entry))) (now (s .exit)) r (now (out .exit)) ⌝ }
+{
+    let reply = Session::from_words(s).seal_close(out);
+    session_handed_back(s, reply)
+}
+
+#[no_mangle]
+pub extern "C" fn ht_session_check_text(s: &mut [u64; 10], piece: &[u8]) -> HtAnswer
+    ensures { λ r. ⌜ SessionSeen (now (s .entry)) (machine.checkText (now (piece .entry))) (now (s .exit)) r [] ⌝ }
+{
+    let reply = Session::from_words(s).check_text(piece);
+    session_handed_back(s, reply)
+}
+
+#[no_mangle]
+pub extern "C" fn ht_session_check_close(s: &mut [u64; 10], tag: &[u8]) -> HtAnswer
+    ensures { λ r. ⌜ SessionSeen (now (s .entry)) (machine.checkClose (now (tag .entry))) (now (s .exit)) r [] ⌝ }
+{
+    let reply = Session::from_words(s).check_close(tag);
+    session_handed_back(s, reply)
+}
+
+// ---- tickets and heads ----
+
+#[no_mangle]
+pub extern "C" fn ht_pack_ticket(ticket: Ticket, out: &mut [u8]) -> HtWritten
+    ensures { λ r. ⌜ ResultSeen writtenNumbers (packTicketInto ticket (now (out .entry))) r (now (out .exit)) ⌝ }
+{
+    written(ticket::pack_ticket(ticket, out))
+}
+
+#[no_mangle]
+pub extern "C" fn ht_unpack_ticket(packed: &[u8]) -> HtUnpackedTicket
+    ensures { λ r. ⌜ r ≡ ticketNumbers (unpackTicket (now (packed .entry))) ⌝ }
+{
+    unpacked_ticket(ticket::unpack_ticket(packed))
+}
+
+#[no_mangle]
+pub extern "C" fn ht_pack_head(head: Head, out: &mut [u8]) -> HtWritten
+    ensures { λ r. ⌜ ResultSeen writtenNumbers (packHeadInto head (now (out .entry))) r (now (out .exit)) ⌝ }
+{
+    written(ticket::pack_head(head, out))
+}
+
+#[no_mangle]
+pub extern "C" fn ht_unpack_head(packed: &[u8]) -> HtUnpackedHead
+    ensures { λ r. ⌜ r ≡ headNumbers (unpackHead (now (packed .entry))) ⌝ }
+{
+    unpacked_head(ticket::unpack_head(packed))
+}
+
+// ---- tapes ----
+
+#[no_mangle]
+pub extern "C" fn ht_writer_fresh(w: &mut [u64; 12])
+    ensures { λ _. ⌜ plainWriterIn (now (w .exit)) ≡ plain.freshWriter ⌝ }
+{
+    *w = Writer::fresh().words();
+}
+
+// The writer after a call goes back into its words, and the answer into numbers.
+fn writer_handed_back(w: &mut [u64; 12], reply: WriterReply) -> HtAnswer
+    ensures { λ r. ⌜ r ≡ answerNumbers (answerReply (reply .answer)) ⌝ }
+    ensures { λ _. ⌜ plainWriterIn (now (w .exit)) ≡ writerOf (reply .writer) ⌝ }
+{
+    let after = reply.writer;
+    let answer = reply.answer;
+    *w = after.words();
+    answered(answer)
+}
+
+#[no_mangle]
+pub extern "C" fn ht_writer_start(
+    w: &mut [u64; 12],
+    key: &[u8],
+    head: Head,
+    out: &mut [u8],
+) -> HtAnswer
+    ensures { λ r. ⌜ WriterSeen (now (w .entry)) (plain.start (now (key .entry)) head (now (out .entry))) (now (w .exit)) r (now (out .exit)) ⌝ }
+{
+    let reply = Writer::from_words(w).start(key, head, out);
+    writer_handed_back(w, reply)
+}
+
+#[no_mangle]
+pub extern "C" fn ht_writer_add(w: &mut [u64; 12], ticket: Ticket, out: &mut [u8]) -> HtAnswer
+    ensures { λ r. ⌜ WriterSeen (now (w .entry)) (plain.add ticket (now (out .entry))) (now (w .exit)) r (now (out .exit)) ⌝ }
+{
+    let reply = Writer::from_words(w).add(ticket, out);
+    writer_handed_back(w, reply)
+}
+
+#[no_mangle]
+pub extern "C" fn ht_writer_finish(w: &mut [u64; 12], out: &mut [u8]) -> HtAnswer
+    ensures { λ r. ⌜ WriterSeen (now (w .entry)) (plain.finish (now (out .entry))) (now (w .exit)) r (now (out .exit)) ⌝ }
+{
+    let reply = Writer::from_words(w).finish(out);
+    writer_handed_back(w, reply)
+}
+
+#[no_mangle]
+pub extern "C" fn ht_open_tape(key: &[u8], tape: &[u8], out: &mut [u8]) -> HtOpened
+    ensures { λ r. ⌜ ResultSeen openedNumbers (openTape (now (key .entry)) (now (tape .entry)) (now (out .entry))) r (now (out .exit)) ⌝ }
+{
+    opened(tape::open_tape(key, tape, out))
+}
+
+#[no_mangle]
+pub extern "C" fn ht_read_ticket(plain: &[u8], position: u64) -> HtReading
+    ensures { λ r. ⌜ r ≡ readNumbers (readNext (readerAt (now (plain .entry)) position)) ⌝ }
+{
+    reading(reader::read_at(plain, index(position)))
+}

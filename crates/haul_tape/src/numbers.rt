@@ -1,0 +1,166 @@
+// Answers in numbers, for C: `refused` is 0 where the call was done; else it is the number, and the rest is zeros.
+use super::HtAnswer;
+use super::HtOpened;
+use super::HtReading;
+use super::HtUnpackedHead;
+use super::HtUnpackedTicket;
+use super::HtWritten;
+use acorn_model::Answer;
+use acorn_model::Written;
+use reader::Step;
+use tape_model::Head;
+use tape_model::NextTicket;
+use tape_model::OpenedTape;
+use tape_model::Ticket;
+use tape_model::UnpackedHead;
+use tape_model::UnpackedTicket;
+ghost use mathlib.Core.Path.{_≡_};
+ghost use Rattle.acorn_model.specs.Calls.{answerReply, writtenReply};
+ghost use Rattle.tape_model.specs.Ticket.{ticketReply, headReply};
+ghost use Rattle.tape_model.specs.Tape.{openedReply};
+ghost use Rattle.tape_model.specs.Reader.{nextReply};
+ghost use Rattle.haul_tape.specs.Contracts.{writtenNumbers, answerNumbers, openedNumbers, noTicket, noHead, ticketNumbers, headNumbers, readingNumbers};
+
+fn wide(number: u8) -> u32
+    ensures { λ r. ⌜ r ≡ number ⌝ }
+{
+    number as u32
+}
+
+fn size(n: usize) -> u64
+    ensures { λ r. ⌜ r ≡ n ⌝ }
+{
+    n as u64
+}
+
+pub(crate) fn index(n: u64) -> usize
+    ensures { λ r. ⌜ r ≡ n ⌝ }
+{
+    n as usize
+}
+
+fn no_ticket() -> Ticket
+    ensures { λ r. ⌜ r ≡ noTicket ⌝ }
+{
+    Ticket {
+        form: 0,
+        truck: 0,
+        shovel: 0,
+        tip: 0,
+        grade: 0,
+        loaded: 0,
+        tipped: 0,
+        gross: 0,
+        tare: 0,
+    }
+}
+
+fn no_head() -> Head
+    ensures { λ r. ⌜ r ≡ noHead ⌝ }
+{
+    Head {
+        device: 0,
+        shift: 0,
+        sheet: 0,
+    }
+}
+
+pub(crate) fn written(answer: Written) -> HtWritten
+    ensures { λ r. ⌜ r ≡ writtenNumbers (writtenReply answer) ⌝ }
+{
+    match answer {
+        Written::Refused(n) => HtWritten {
+            refused: wide(n),
+            bytes: 0,
+        },
+        Written::Done(n) => HtWritten {
+            refused: 0,
+            bytes: size(n),
+        },
+    }
+}
+
+pub(crate) fn answered(answer: Answer) -> HtAnswer
+    ensures { λ r. ⌜ r ≡ answerNumbers (answerReply answer) ⌝ }
+{
+    match answer {
+        Answer::Refused(n) => HtAnswer {
+            refused: wide(n),
+            bytes: 0,
+            steps: 0,
+        },
+        Answer::Done(n, steps) => HtAnswer {
+            refused: 0,
+            bytes: size(n),
+            steps,
+        },
+    }
+}
+
+pub(crate) fn opened(answer: OpenedTape) -> HtOpened
+    ensures { λ r. ⌜ r ≡ openedNumbers (openedReply answer) ⌝ }
+{
+    match answer {
+        OpenedTape::Refused(n) => HtOpened {
+            refused: wide(n),
+            tickets: 0,
+            net: 0,
+        },
+        OpenedTape::Done(n, net) => HtOpened {
+            refused: 0,
+            tickets: size(n),
+            net,
+        },
+    }
+}
+
+pub(crate) fn unpacked_ticket(answer: UnpackedTicket) -> HtUnpackedTicket
+    ensures { λ r. ⌜ r ≡ ticketNumbers (ticketReply answer) ⌝ }
+{
+    match answer {
+        UnpackedTicket::Refused(n) => HtUnpackedTicket {
+            refused: wide(n),
+            ticket: no_ticket(),
+        },
+        UnpackedTicket::Done(ticket) => HtUnpackedTicket { refused: 0, ticket },
+    }
+}
+
+pub(crate) fn unpacked_head(answer: UnpackedHead) -> HtUnpackedHead
+    ensures { λ r. ⌜ r ≡ headNumbers (headReply answer) ⌝ }
+{
+    match answer {
+        UnpackedHead::Refused(n) => HtUnpackedHead {
+            refused: wide(n),
+            head: no_head(),
+        },
+        UnpackedHead::Done(head) => HtUnpackedHead { refused: 0, head },
+    }
+}
+
+pub(crate) fn reading(step: Step) -> HtReading
+    ensures { λ r. ⌜ r ≡ readingNumbers (nextReply (step .answer)) (step .position) ⌝ }
+{
+    let answer = step.answer;
+    let position = size(step.position);
+    match answer {
+        NextTicket::Refused(n) => HtReading {
+            refused: wide(n),
+            at_end: 0,
+            position,
+            ticket: no_ticket(),
+        },
+        NextTicket::Done(ticket) => HtReading {
+            refused: 0,
+            at_end: 0,
+            position,
+            ticket,
+        },
+        NextTicket::End => HtReading {
+            refused: 0,
+            at_end: 1,
+            position,
+            ticket: no_ticket(),
+        },
+    }
+}
