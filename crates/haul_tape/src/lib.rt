@@ -26,6 +26,8 @@ ghost use Rattle.tape_model.specs.Ticket.{packTicketInto, unpackTicket, packHea
 ghost use Rattle.tape_model.specs.Tape.{openTape};
 ghost use Rattle.tape_model.specs.Writer as plain;
 ghost use Rattle.tape_model.specs.Reader.{readNext};
+ghost use Rattle.tape_model.specs.Listing.{listing as tapeListing};
+ghost use Rattle.ticket.specs.Packing.{putInto};
 ghost use Rattle.session.specs.Contracts.{machineOf};
 ghost use Rattle.session.specs.Words.{machineIn};
 ghost use Rattle.tape.specs.Contracts.{writerOf};
@@ -269,4 +271,11 @@ pub extern "C" fn ht_read_ticket(plain: &[u8], position: u64) -> HtReading
     ensures { λ r. ⌜ r ≡ readNumbers (readNext (readerAt (now (plain .entry)) position)) ⌝ }
 {
     reading(reader::read_at(plain, index(position)))
+}
+
+#[no_mangle]
+pub extern "C" fn ht_list_tape(key: &[u8], tape: &[u8], out: &mut [u8]) -> HtWritten
+    ensures { λ r. ⌜ ResultSeen writtenNumbers (putInto (tapeListing (now (key .entry)) (now (tape .entry))) (now (out .entry))) r (now (out .exit)) ⌝ }
+{
+    written(listing::list_tape(key, tape, out))
 }
