@@ -7,7 +7,7 @@ use super::HtUnpackedTicket;
 use super::HtWritten;
 use acorn_model::Answer;
 use acorn_model::Written;
-use reader::Step;
+use reader::ReadAt;
 use tape_model::Head;
 use tape_model::NextTicket;
 use tape_model::OpenedTape;
@@ -138,11 +138,11 @@ pub(crate) fn unpacked_head(answer: UnpackedHead) -> HtUnpackedHead
     }
 }
 
-pub(crate) fn reading(step: Step) -> HtReading
-    ensures { λ r. ⌜ r ≡ readingNumbers (nextReply (step .answer)) (step .position) ⌝ }
+pub(crate) fn reading(read: ReadAt) -> HtReading
+    ensures { λ r. ⌜ r ≡ readingNumbers (nextReply (read .answer)) (read .position) ⌝ }
 {
-    let answer = step.answer;
-    let position = size(step.position);
+    let answer = read.answer;
+    let position = size(read.position);
     match answer {
         NextTicket::Refused(n) => HtReading {
             refused: wide(n),

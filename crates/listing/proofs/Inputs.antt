@@ -10,11 +10,12 @@ use lib.ListN.{length, take, drop, replicate, length-take, length-drop, drop-of-
 use lib.Seq.{take-all, take-length, drop-length}
 use borrow.Author.Tests.{lt-leb, le-ltb, ne-eqb}
 use Rattle.acorn_model.specs.Bits.{_if_else_}
-use Rattle.acorn_model.specs.Calls.{refused, done, accepted, writtenOver}
+use Rattle.acorn_model.specs.declared.Written.{Written}
+use Rattle.acorn_model.specs.Calls.{done, writtenReply, writtenOver}
 use Rattle.acorn_model.specs.Machine.{keyLength}
-use Rattle.acorn_model.specs.Message.{resultOf}
+use Rattle.acorn_model.specs.Message.{Result}
 use Rattle.acorn_model.proofs.Numbers.{lt-or-ge}
-use Rattle.acorn_model.proofs.Messages.{result-written, done-told}
+use Rattle.acorn_model.proofs.Messages.{result-written}
 use Rattle.tape_model.specs.declared.Ticket.{Ticket}
 use Rattle.tape_model.specs.declared.Head.{Head}
 use Rattle.tape_model.specs.Ticket.{ticketLength, headRule}
@@ -23,7 +24,7 @@ use Rattle.tape_model.specs.Listing.{headLine, ticketLines, totalLine, refusedL
 use Rattle.tape_model.specs.Laws.{Valid}
 use Rattle.tape_model.proofs.Tapes.{tapes-come-back}
 use Rattle.ticket.specs.Packing.{putInto}
-use Rattle.listing.specs.Contracts.{longestText}
+use Rattle.listing.specs.Contracts.{Listed, textRoom}
 use Rattle.listing.specs.Laws.{longestInput, ListingFacts}
 use Rattle.listing.proofs.Longest.{longest}
 
@@ -74,27 +75,30 @@ too-long : (input : List ℕ) → longestInput < length input → printed input 
 unfolding printed
 too-long input h = long-refused (take keyLength input) (drop keyLength input) (omega (arith, length-drop keyLength input))
 
-printed-length : (input : List ℕ) → length (printed input) ≤ longestText
+printed-length : (input : List ℕ) → length (printed input) ≤ textRoom
 unfolding printed
 printed-length input = longest (take keyLength input) (drop keyLength input)
+
+-- ## What a call comes to that is lent room enough
 
 fits : (text out : List ℕ) → length text ≤ length out → putInto text out ≡ record { answer = done (length text); out = writtenOver text out }
 unfolding putInto
 fits text out room = result-written _ (length text) text out (rw (le-ltb (length out) (length text) room))
 
--- a listing that was written into room for the longest lies within it
-pub listing-within : (input out : List ℕ) (n : ℕ) (after : List ℕ) → length out ≡ longestText → length after ≡ length out
-    → putInto (printed input) out ≡ record { answer = done n; out = after } → n ≤ length after
-unfolding putInto
-listing-within input out n after room same e = omega (arith, done-told _ (length (printed input)) (printed input) out n after e .1, printed-length input)
+pub input-listed : (input out : List ℕ) (answer : Written) (after : List ℕ) → textRoom ≤ length out → Listed (printed input) out answer after
+    → (writtenReply answer ≡ done (length (printed input))) × (after ≡ writtenOver (printed input) out)
+input-listed input out answer after room met =
+    let e = sym met ∙ fits (printed input) out (omega (arith, printed-length input)) in
+    (ap (λ (r : Result ℕ). r .answer) e, ap (λ (r : Result ℕ). r .out) e)
 
 pub listing-facts : ListingFacts
 listing-facts =
     record {
       longest = longest;
+      input-listed = input-listed;
+      tapes = λ key head tickets k h v few out answer after room met.
+          input-listed (key ++ tapeOf key head tickets) out answer after room met .1
+          ∙ ap (λ (text : List ℕ). writtenOver text out) (tapes-come-back key head tickets k h v few .lists);
       too-long = too-long;
       read-enough = λ input n long within. too-long (take n input) (omega (arith, length-take n input)) ∙ sym (too-long input (omega arith));
-      tapes = λ key head tickets k h v few out room.
-          let e = tapes-come-back key head tickets k h v few .lists in
-          ap (λ (text : List ℕ). putInto text out) e ∙ fits _ out (omega (arith, room, ap length e, printed-length (key ++ tapeOf key head tickets)));
     }

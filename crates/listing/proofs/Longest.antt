@@ -17,7 +17,7 @@ use Rattle.tape_model.specs.Tape.{ticketLimit, unpackTickets, isRefused, ticket
 use Rattle.tape_model.specs.Listing.{space, lineEnd, wordTape, wordTotal, wordRefused, decimalBelow, decimal, numbers, headLine, ticketLine, ticketLines, totalLine, refusedLine, listed, listingUnless, listing}
 use Rattle.tape_model.proofs.Ranges.{in-ranges}
 use Rattle.tape_model.proofs.Listing.{decimal-length}
-use Rattle.listing.specs.Contracts.{longestText}
+use Rattle.listing.specs.Contracts.{textRoom}
 use Rattle.listing.proofs.TicketLines.{taken-apart, unpacked-count, told}
 use Rattle.listing.proofs.Opened.{size, tickets-good}
 
@@ -172,17 +172,17 @@ head-short string h e =
 
 -- ## The listing
 
-listed-length : (head : Reply Head) (ts : List Ticket) → ((h : Head) → head ≡ done h → length (headLine h) ≤ 32) → length ts ≤ ticketLimit → AllShort ts → length (listed head ts) ≤ longestText
+listed-length : (head : Reply Head) (ts : List Ticket) → ((h : Head) → head ≡ done h → length (headLine h) ≤ 32) → length ts ≤ ticketLimit → AllShort ts → length (listed head ts) ≤ textRoom
 unfolding listed
 listed-length (refused n) ts h few s = omega (arith, refused-line-length n)
 listed-length (done h) ts short few s =
     omega (arith, length-append (headLine h ++ ticketLines 1 ts) (totalLine ts), length-append (headLine h) (ticketLines 1 ts), short h refl, ticket-lines-length 1 ts (omega arith) s, total-line-length ts few s)
 
-pub longest : (key tape : List ℕ) → length (listing key tape) ≤ longestText
+pub longest : (key tape : List ℕ) → length (listing key tape) ≤ textRoom
 unfolding listing listingUnless
 longest key tape = by (openRefusal key tape (replicate (length tape) 0)) refl
   where
-    by : (n : ℕ) → openRefusal key tape (replicate (length tape) 0) ≡ n → length (listingUnless n key tape) ≤ longestText
+    by : (n : ℕ) → openRefusal key tape (replicate (length tape) 0) ≡ n → length (listingUnless n key tape) ≤ textRoom
     by zero e =
         let t = told (unpackTickets (ticketCount tape) (plainBytes key tape)) (tickets-good key tape _ e) in
         listed-length (unpackHead (headBytes tape)) _ (head-short (headBytes tape))

@@ -4,10 +4,12 @@ use mathlib.Core.Bool.{true, false}
 use mathlib.Core.List.{List, [], _∷_, _++_}
 use Prim.Native.Nat.{ℕ, _*_, _/_}
 use lib.ListN.{length}
-use Rattle.acorn_model.specs.Calls.{Reply, writtenOver}
+use Rattle.acorn_model.specs.declared.Written.{Written}
+use Rattle.acorn_model.specs.Calls.{Reply, writtenReply, writtenOver}
 use Rattle.tape_model.specs.declared.Ticket.{Ticket}
 use Rattle.tape_model.specs.Ticket.{ticketLength, net}
 use Rattle.tape_model.specs.Tape.{ticketLimit, ticketsLength, unpackTickets, isRefused, ticketsIn, totalNet}
+use Rattle.ticket.specs.Packing.{putInto}
 use Rattle.tape_model.specs.Listing.{wordTotal, numbers, lineEnd, ticketLines}
 
 -- the text was written over the start of `before`, its length answered, and `after` is what stands there now
@@ -15,9 +17,13 @@ pub record Wrote (text before : List ℕ) (answer : ℕ) (after : List ℕ) : Ty
   pub count : answer ≡ length text
   pub written : after ≡ writtenOver text before
 
--- the bytes of the longest listing: a head's line of 32, 5,000 of 38 and the totals' line of 22
-abbrev pub longestText : ℕ
-longestText = 190054
+-- what the public calls come to: the text is written over the start of the output and its length answered, or it does not fit, and 6 is
+abbrev pub Listed : List ℕ → List ℕ → Written → List ℕ → Type 0
+Listed text out answer after = putInto text out ≡ record { answer = writtenReply answer; out = after }
+
+-- room for every listing: a head's line of at most 32 bytes, 5,000 of at most 38 and the totals' line of at most 22
+abbrev pub textRoom : ℕ
+textRoom = 190054
 
 -- the plain bytes of the most tickets
 abbrev pub longestPlain : ℕ

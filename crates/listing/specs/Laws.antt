@@ -4,7 +4,8 @@ use mathlib.Core.Bool.{true}
 use mathlib.Core.List.{List, _++_}
 use Prim.Native.Nat.{ℕ, _+_, _*_, _≤_, _<_}
 use lib.ListN.{length, take}
-use Rattle.acorn_model.specs.Calls.{done, writtenOver}
+use Rattle.acorn_model.specs.declared.Written.{Written}
+use Rattle.acorn_model.specs.Calls.{done, writtenReply, writtenOver}
 use Rattle.acorn_model.specs.Machine.{keyLength}
 use Rattle.tape_model.specs.declared.Ticket.{Ticket}
 use Rattle.tape_model.specs.declared.Head.{Head}
@@ -12,8 +13,7 @@ use Rattle.tape_model.specs.Ticket.{ticketLength, headRule}
 use Rattle.tape_model.specs.Tape.{ticketLimit, emptyTapeLength, tapeOf}
 use Rattle.tape_model.specs.Listing.{headLine, ticketLines, totalLine, refusedLine, listing, printed}
 use Rattle.tape_model.specs.Laws.{Valid}
-use Rattle.ticket.specs.Packing.{putInto}
-use Rattle.listing.specs.Contracts.{longestText}
+use Rattle.listing.specs.Contracts.{Listed, textRoom}
 
 -- a key and the longest tape
 abbrev pub longestInput : ℕ
@@ -21,12 +21,14 @@ longestInput = keyLength + emptyTapeLength + ticketLength * ticketLimit
 
 pub record ListingFacts : Type 0 where
   -- a buffer of 190,054 bytes has room for every listing
-  pub longest : (key tape : List ℕ) → length (listing key tape) ≤ longestText
+  pub longest : (key tape : List ℕ) → length (listing key tape) ≤ textRoom
+  -- so a call that is lent as many, and meets its contract, writes the listing and answers its length
+  pub input-listed : (input out : List ℕ) (answer : Written) (after : List ℕ) → textRoom ≤ length out → Listed (printed input) out answer after
+      → (writtenReply answer ≡ done (length (printed input))) × (after ≡ writtenOver (printed input) out)
+  -- the input of a key of 16 bytes and a tape of at most 5,000 valid tickets gives the lines of its head, its tickets and its totals
+  pub tapes : (key : List ℕ) (head : Head) (tickets : List Ticket) → length key ≡ keyLength → headRule head ≡ true → Valid tickets → length tickets ≤ ticketLimit
+      → (out : List ℕ) (answer : Written) (after : List ℕ) → textRoom ≤ length out → Listed (printed (key ++ tapeOf key head tickets)) out answer after
+      → after ≡ writtenOver (headLine head ++ ticketLines 1 tickets ++ totalLine tickets) out
   -- an input of more than 65,041 bytes is refused with 2: so a program that has read one byte more need not read on
   pub too-long : (input : List ℕ) → longestInput < length input → printed input ≡ refusedLine 2
   pub read-enough : (input : List ℕ) (n : ℕ) → longestInput < n → n ≤ length input → printed (take n input) ≡ printed input
-  -- the input of a key of 16 bytes and a tape of at most 5,000 valid tickets gives the lines of its head, its tickets and its totals
-  pub tapes : (key : List ℕ) (head : Head) (tickets : List Ticket) → length key ≡ keyLength → headRule head ≡ true → Valid tickets → length tickets ≤ ticketLimit
-      → (out : List ℕ) → longestText ≤ length out
-      → putInto (printed (key ++ tapeOf key head tickets)) out
-      ≡ record { answer = done (length (headLine head ++ ticketLines 1 tickets ++ totalLine tickets)); out = writtenOver (headLine head ++ ticketLines 1 tickets ++ totalLine tickets) out }

@@ -13,18 +13,18 @@ use tape_model::OpenedTape;
 use tape_model::UnpackedHead;
 ghost use mathlib.Core.Path.{_≡_};
 ghost use Prim.Native.Nat.{_≤_};
-ghost use lib.ListN.{length};
-ghost use Rattle.acorn_model.specs.Calls.{done, writtenReply};
+ghost use lib.ListN.{length, replicate};
+ghost use Rattle.acorn_model.specs.Calls.{done};
 ghost use Rattle.acorn_model.specs.Machine.{keyLength};
 ghost use Rattle.tape_model.specs.Ticket.{headReply};
 ghost use Rattle.tape_model.specs.Tape.{ticketsIn};
 ghost use Rattle.tape_model.specs.Listing as model;
-ghost use Rattle.ticket.specs.Packing.{putInto};
-ghost use Rattle.listing.specs.Contracts.{Wrote, PlainTickets, unpacked, longestText, longestPlain};
+ghost use Rattle.listing.specs.Contracts.{Wrote, Listed, PlainTickets, unpacked, textRoom, longestPlain};
 
 // Room for the text of every tape.
 pub fn text_buffer() -> [u8; 190054]
-    ensures { λ r. ⌜ length r ≡ longestText ⌝ }
+    ensures { λ r. ⌜ r ≡ replicate textRoom 0 ⌝ }
+    ensures { λ r. ⌜ length r ≡ textRoom ⌝ }
 {
     [0; 190054]
 }
@@ -61,7 +61,7 @@ fn put_opened(head: UnpackedHead, plain: &[u8], net: u64, out: &mut [u8]) -> usi
 
 // The listing of a tape, whose tickets are opened into plain.
 fn put_text(key: &[u8], tape: &[u8], plain: &mut [u8], out: &mut [u8]) -> usize
-    requires { ⌜ (longestPlain ≤ length (now plain)) × (longestText ≤ length (now out)) ⌝ }
+    requires { ⌜ (longestPlain ≤ length (now plain)) × (textRoom ≤ length (now out)) ⌝ }
     ensures { λ r. ⌜ Wrote (model.listing (now (key .entry)) (now (tape .entry))) (now (out .entry)) r (now (out .exit)) ⌝ }
 {
     match open_tape(key, tape, plain) {
@@ -76,7 +76,7 @@ fn put_text(key: &[u8], tape: &[u8], plain: &mut [u8], out: &mut [u8]) -> usize
 
 // Writes the listing of a tape: 6 where the output is too short for it, and nothing is written.
 pub fn list_tape(key: &[u8], tape: &[u8], out: &mut [u8]) -> Written
-    ensures { λ r. ⌜ putInto (model.listing (now (key .entry)) (now (tape .entry))) (now (out .entry)) ≡ record { answer = writtenReply r; out = now (out .exit) } ⌝ }
+    ensures { λ r. ⌜ Listed (model.listing (now (key .entry)) (now (tape .entry))) (now (out .entry)) r (now (out .exit)) ⌝ }
 {
     let mut plain = plain_buffer();
     let mut text = text_buffer();
@@ -93,7 +93,7 @@ fn key_end(n: usize) -> usize
 
 // The same of a program's input: the key's 16 bytes, and then a tape.
 pub fn list_input(input: &[u8], out: &mut [u8]) -> Written
-    ensures { λ r. ⌜ putInto (model.printed (now (input .entry))) (now (out .entry)) ≡ record { answer = writtenReply r; out = now (out .exit) } ⌝ }
+    ensures { λ r. ⌜ Listed (model.printed (now (input .entry))) (now (out .entry)) r (now (out .exit)) ⌝ }
 {
     let n = key_end(input.len());
     list_tape(&input[..n], &input[n..], out)

@@ -11,11 +11,11 @@ pub(crate) fn put_decimal(n: u64, out: &mut [u8]) -> usize
     ensures { λ r. ⌜ Wrote (model.decimal n) (now (out .entry)) r (now (out .exit)) ⌝ }
 {
     if n < 10 {
-        out[0] = 48 + n as u8;
+        out[0] = b'0' + n as u8;
         return 1;
     }
     let k = put_decimal(n / 10, out);
-    out[k] = 48 + (n % 10) as u8;
+    out[k] = b'0' + (n % 10) as u8;
     k + 1
 }
 

@@ -13,7 +13,7 @@ use denote.Ref.{now}
 use denote.Triple.Clauses.{AtExit}
 use denote.Triple.Entry.{Args, Res}
 use Rattle.tape_model.specs.Reader.{readNext}
-use Rattle.reader.specs.Contracts.{readerAt, stepOutcome, Made, NextCalled}
+use Rattle.reader.specs.Contracts.{readerAt, readOutcome, Made, NextCalled}
 use Rattle.reader.proofs.read_at as read
 use Rattle.reader.proofs.Reader.new as new
 use Rattle.reader.proofs.Reader.next as next
@@ -24,7 +24,7 @@ module _ {M : Type 1} (𝓤 : URA M) (H : Heap 𝓤) (A : Atoms 𝓤) (mem : Mem
     read-at-asks = refl
 
     read-at-says : (r : Res read.signature κs) (x : AtExit read.ended κs) → read.clauses 𝓤 H A mem run κs a .ensures tt r x
-        ≡ fact 𝓤 (stepOutcome (now (a .0)) r ≡ readNext (readerAt (now (a .0)) (a .1 .0)))
+        ≡ fact 𝓤 (readOutcome (now (a .0)) r ≡ readNext (readerAt (now (a .0)) (a .1 .0)))
     read-at-says r x = refl
 
   module _ (a : Args new.signature κs) where

@@ -5,7 +5,7 @@ use Prim.Native.Nat.{ℕ}
 use denote.Ref.{RefT, now}
 use Rattle.tape_model.specs.Reader as model
 use Rattle.tape_model.specs.Reader.{ReadOutcome, readerOver, readNext, nextReply}
-use Rattle.reader.specs.declared.Step.{Step}
+use Rattle.reader.specs.declared.ReadAt.{ReadAt}
 use Rattle.reader.specs.declared.Reader.{Reader}
 use Rattle.reader.specs.declared.Handed.{Handed}
 
@@ -13,9 +13,9 @@ use Rattle.reader.specs.declared.Handed.{Handed}
 abbrev pub readerAt : List ℕ → ℕ → model.Reader
 readerAt string position = record { string = string; position = position }
 
--- what a step comes to, over these bytes
-unfoldable pub stepOutcome : List ℕ → Step → ReadOutcome
-stepOutcome string s = record { next = readerAt string (s .position); answer = nextReply (s .answer) }
+-- what it comes to, over these bytes
+unfoldable pub readOutcome : List ℕ → ReadAt → ReadOutcome
+readOutcome string s = record { next = readerAt string (s .position); answer = nextReply (s .answer) }
 
 -- document 01's reader that a reader stands for: every value of the struct stands for one
 unfoldable pub readerOf : Reader → model.Reader

@@ -3,12 +3,12 @@
 ghost use mathlib.Core.Path.{_≡_};
 ghost use Rattle.tape_model.specs.Tape.{ticketsLength};
 ghost use Rattle.tape_model.specs.Reader.{readNext};
-ghost use Rattle.reader.specs.Contracts.{readerAt, stepOutcome, Made, NextCalled};
+ghost use Rattle.reader.specs.Contracts.{readerAt, readOutcome, Made, NextCalled};
 use tape_model::NextTicket;
 use tape_model::UnpackedTicket;
 
-// What stands at a position, and the position after it. Positions count tickets.
-pub struct Step {
+// What stands at a position, and the position after it. A position is the number of tickets before it: 0 before the first.
+pub struct ReadAt {
     pub position: usize,
     pub answer: NextTicket,
 }
@@ -21,18 +21,18 @@ fn tickets_length(n: usize) -> bool
 }
 
 // The ticket at a position of opened bytes: 2 for bytes of a wrong size, 8 where the ticket does not unpack, and the position stays.
-pub fn read_at(bytes: &[u8], position: usize) -> Step
-    ensures { λ r. ⌜ stepOutcome (now (bytes .entry)) r ≡ readNext (readerAt (now (bytes .entry)) position) ⌝ }
+pub fn read_at(bytes: &[u8], position: usize) -> ReadAt
+    ensures { λ r. ⌜ readOutcome (now (bytes .entry)) r ≡ readNext (readerAt (now (bytes .entry)) position) ⌝ }
 {
     let size = bytes.len();
     if !tickets_length(size) {
-        return Step {
+        return ReadAt {
             position,
             answer: NextTicket::Refused(2),
         };
     }
     if size / 13 <= position {
-        return Step {
+        return ReadAt {
             position,
             answer: NextTicket::End,
         };
@@ -40,13 +40,13 @@ pub fn read_at(bytes: &[u8], position: usize) -> Step
     let at = 13 * position;
     let end = at + 13;
     let UnpackedTicket::Done(t) = ticket::unpack_ticket(&bytes[at..end]) else {
-        return Step {
+        return ReadAt {
             position,
             answer: NextTicket::Refused(8),
         };
     };
     let next = position + 1;
-    Step {
+    ReadAt {
         position: next,
         answer: NextTicket::Done(t),
     }
@@ -76,13 +76,13 @@ impl<'a> Reader<'a> {
     pub fn next(self) -> Handed<'a>
         ensures { λ h. ⌜ NextCalled (self .entry) h ⌝ }
     {
-        let step = read_at(self.bytes, self.position);
+        let read = read_at(self.bytes, self.position);
         Handed {
             reader: Reader {
                 bytes: self.bytes,
-                position: step.position,
+                position: read.position,
             },
-            answer: step.answer,
+            answer: read.answer,
         }
     }
 }

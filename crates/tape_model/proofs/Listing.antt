@@ -1,17 +1,18 @@
 -- The listing's numbers are decimal digits that read back as the number, and document 01's example comes out.
 use mathlib.Core.Path.{_≡_, refl, sym, ap, _∙_}
-use mathlib.Core.Bool.{Bool, true, false}
+use mathlib.Core.Bool.{Bool, true, false, not, _&&_}
 use mathlib.Core.List.{List, [], _∷_, _++_}
 use Prim.Native.Nat.{ℕ, zero, suc, _+_, _-_, _*_, _/_, _%_, _^_, _≤_, _<_}
 use native.Mathlib.Nat.{pow-suc}
 use native.Mathlib.Omega.{arith}
-use lib.Dec.{ltb}
-use lib.ListN.{length, getD, length-append}
-use borrow.Author.Tests.{ltb-true, ltb-false, lt-ltb, le-ltb}
+use lib.Dec.{ltb, eqb}
+use lib.ListN.{length, getD, take, drop, length-append, length-take}
+use borrow.Author.Tests.{ltb-true, ltb-false, lt-ltb, le-ltb, ne-eqb}
 use Rattle.acorn_model.specs.Bits.{_if_else_}
 use Rattle.tape_model.specs.Ticket.{net}
-use Rattle.tape_model.specs.Tape.{totalNet}
-use Rattle.tape_model.specs.Listing.{decimalBelow, decimal, numbers, headLine, ticketLine, ticketLines, totalLine, listed, listingUnless, listing}
+use Rattle.acorn_model.specs.Machine.{keyLength}
+use Rattle.tape_model.specs.Tape.{totalNet, tapeLength, openRefusal}
+use Rattle.tape_model.specs.Listing.{decimalBelow, decimal, numbers, headLine, ticketLine, ticketLines, totalLine, refusedLine, listed, listingUnless, listing, printed}
 use Rattle.tape_model.specs.Laws.{valueAfter, ListingLaws}
 
 -- what holds of one digit, and of more, holds of a number's digits
@@ -106,6 +107,17 @@ value-of-digits (suc k) n h =
     (λ l. value-last 0 (0x30 + n % 10) (decimalBelow k (n / 10))
     ∙ ap (λ (x : ℕ). 10 * x + (0x30 + n % 10 - 0x30)) (value-of-digits k (n / 10) (omega (arith, pow-suc 10 k))) ∙ omega arith)
 
+-- ## A key cut short
+
+short-key : (input : List ℕ) → length input < keyLength → printed input ≡ refusedLine 2
+unfolding printed listing listingUnless openRefusal
+short-key input h =
+    ap (λ (n : ℕ). listingUnless n (take keyLength input) (drop keyLength input))
+    (by (eqb (length (take keyLength input)) keyLength) (tapeLength (length (drop keyLength input))) _ (ne-eqb (length (take keyLength input)) keyLength (λ e. omega (arith, e, length-take keyLength input))))
+  where
+    by : (a b : Bool) (n : ℕ) → a ≡ false → (2 if not (a && b) else n) ≡ 2
+    by a b n e = rw e
+
 -- ## All of it
 
 pub listing-laws : ListingLaws
@@ -115,6 +127,8 @@ listing-laws =
       digits = all-digits 20;
       leading = no-leading-zero 20;
       value = value-of-digits 20;
+      zero-digit = decimal-one 0 (omega arith);
+      short-key = short-key;
       refusal = λ key tape n e. ap (λ (x : ℕ). listingUnless x key tape) e;
       example = refl;
     }

@@ -93,7 +93,9 @@ pub record ListingLaws : Type 0 where
   pub digits : (n : ℕ) → n < 10 ^ 20 → (i : ℕ) → i < length (decimal n) → (0x30 ≤ getD (decimal n) i 0) × (getD (decimal n) i 0 ≤ 0x39)
   pub leading : (n : ℕ) → n < 10 ^ 20 → 0 < n → 0x30 < getD (decimal n) 0 0
   pub value : (n : ℕ) → n < 10 ^ 20 → valueAfter 0 (decimal n) ≡ n
-  -- a refusal is printed alone
+  pub zero-digit : decimal 0 ≡ 0x30 ∷ []
+  -- a refusal is printed alone; a key cut short is 2
   pub refusal : (key tape : List ℕ) (n : ℕ) → openRefusal key tape (replicate (length tape) 0) ≡ suc n → listing key tape ≡ refusedLine (suc n)
+  pub short-key : (input : List ℕ) → length input < keyLength → printed input ≡ refusedLine 2
   -- document 01's example
   pub example : listed (done (record { device = 7; shift = 2; sheet = 1 })) (ticketWith 3600 4200 250000 110000 ∷ []) ≡ exampleText

@@ -1,4 +1,4 @@
--- What packing comes to besides the model's: a ticket by itself, and a packed string put into lent bytes.
+-- What packing comes to besides the model's: a ticket by itself, and a string put into lent bytes.
 use Prim.Native.Nat.{ℕ}
 use mathlib.Core.List.{List}
 use lib.Dec.{ltb}
@@ -15,6 +15,6 @@ packedAlone t =
     record { answer = done ticketLength; out = packTicket t } if ticketRule t else
     record { answer = refused 4; out = replicate ticketLength 0 }
 
--- a packed string put into lent bytes: 6 where they are too few
+-- a string put into lent bytes: 6 where they are too few
 unfoldable pub putInto : List ℕ → List ℕ → Result ℕ
-putInto packed out = resultOf (6 if ltb (length out) (length packed) else accepted) (length packed) packed out
+putInto string out = resultOf (6 if ltb (length out) (length string) else accepted) (length string) string out

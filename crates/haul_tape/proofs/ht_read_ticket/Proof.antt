@@ -2,7 +2,7 @@
 use mathlib.Core.Path.{ap, _∙_}
 use borrow.Author.Needs.{needs}
 use Rattle.tape_model.specs.Reader.{readNext}
-use Rattle.reader.specs.Contracts.{readerAt, stepOutcome}
+use Rattle.reader.specs.Contracts.{readerAt, readOutcome}
 use Rattle.haul_tape.specs.Contracts.{readNumbers}
 use Rattle.haul_tape.proofs.ht_read_ticket.Statement.{statement}
 use Rattle.haul_tape.proofs.ht_read_ticket.Tie as tie
@@ -17,7 +17,7 @@ reading-requires : tie.Need-reading-requires
 reading-requires c κs = search needs
 
 returns : tie.Need-returns
-unfolding stepOutcome
+unfolding readOutcome
 returns c = c .reading .ensures ∙ ap readNumbers (c .before .read-at .ensures ∙ ap (λ p. readNext (readerAt (c .before .before .before .before .args .plain .now) p)) (c .before .before .index .ensures))
 
 pub ht-read-ticket-spec : {M : Type 1} → statement M

@@ -5,7 +5,7 @@ use native.Mathlib.Omega.{arith}
 use borrow.Author.Needs.{needs}
 use Rattle.tape_model.specs.Ticket.{ticketReply}
 use Rattle.tape_model.specs.Reader.{handedOut, nextReply}
-use Rattle.reader.specs.Contracts.{stepOutcome}
+use Rattle.reader.specs.Contracts.{readOutcome}
 use Rattle.reader.proofs.Cases.{wrong-size, no-more, unpacked, not-unpacked}
 use Rattle.reader.proofs.read_at.Statement.{statement}
 use Rattle.reader.proofs.read_at.Tie as tie
@@ -14,13 +14,13 @@ tickets-length-requires : tie.Need-tickets-length-requires
 tickets-length-requires c κs = search needs
 
 returns : tie.Need-returns
-unfolding stepOutcome nextReply
+unfolding readOutcome nextReply
 returns c =
     let a = c .before .before .before .args in
     wrong-size (a .bytes .now) (a .position) _ (c .before .tickets-length .ensures) (c .if1 .taken)
 
 returns-2 : tie.Need-returns-2
-unfolding stepOutcome nextReply
+unfolding readOutcome nextReply
 returns-2 c =
     let a = c .before .before .before .before .args in
     no-more (a .bytes .now) (a .position) _ (c .before .before .tickets-length .ensures) (c .before .if1 .left) (c .if2 .taken)
@@ -50,7 +50,7 @@ enum-told : tie.Need-enum-told
 enum-told c = search needs
 
 returns-3 : tie.Need-returns-3
-unfolding stepOutcome nextReply ticketReply
+unfolding readOutcome nextReply ticketReply
 returns-3 c =
     let e = c .before .before .before .before in
     let a = e .before .before .before .before .args in
@@ -62,7 +62,7 @@ add-next : tie.Need-add-next
 add-next c = search needs
 
 returns-4 : tie.Need-returns-4
-unfolding stepOutcome nextReply ticketReply handedOut
+unfolding readOutcome nextReply ticketReply handedOut
 returns-4 c =
     let e = c .before .before .before .before .before in
     let a = e .before .before .before .before .args in

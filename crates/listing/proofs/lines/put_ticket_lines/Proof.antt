@@ -6,7 +6,7 @@ use lib.ListN.{take}
 use borrow.Author.Needs.{needs}
 use Rattle.acorn_model.specs.Calls.{done}
 use Rattle.tape_model.specs.Reader.{ReadOutcome, ticket, readNext, nextReply}
-use Rattle.reader.specs.Contracts.{readerAt, stepOutcome}
+use Rattle.reader.specs.Contracts.{readerAt, readOutcome}
 use Rattle.listing.proofs.Texts.{wrote-nothing, wrote-length}
 use Rattle.listing.proofs.TicketLines.{not-else, all-lines, ticket-start, ticket-room, ticket-wrote, ticket-within}
 use Rattle.tape_model.specs.Tape.{ticketsIn}
@@ -27,7 +27,7 @@ abbrev μ-loop : tie.MeasureT-loop
 
 -- a reading that hands out no ticket is out of reach
 out-of-reach : tie.At-match-keys2 Inv-loop μ-loop → ⊥
-unfolding stepOutcome
+unfolding readOutcome
 out-of-reach c =
     let s = c .before .before .before .before .before .before in
     let l = c .before .before .before .loop in
@@ -36,7 +36,7 @@ out-of-reach c =
 -- the ticket that was handed out
 was-read : (c : tie.After-known-told Inv-loop μ-loop)
     → done (ticket (c .before .answer .given .0 .0)) ≡ readNext (readerAt (c .before .before .before .before .before .before .before .before .args .plain .now) (c .before .before .before .before .before .loop .i)) .answer
-unfolding stepOutcome nextReply
+unfolding readOutcome nextReply
 was-read c = ap nextReply (sym (c .before .answer .given .1)) ∙ ap (λ (o : ReadOutcome). o .answer) (c .before .before .before .read-at .ensures)
 
 loop-holds : tie.Need-loop-holds Inv-loop μ-loop

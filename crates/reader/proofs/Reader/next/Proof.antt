@@ -44,16 +44,16 @@ use denote.Triple.Walked.{says, Stays, stay-none, walkOf, goes-none, Walks, ends
 use denote.Exit.{yes}
 use denote.Triple.Clauses.{ensured, lasts}
 use Rattle.tape_model.specs.Reader.{readNext}
-use Rattle.reader.specs.Contracts.{readerAt, stepOutcome, readerOf, outcomeOf, NextCalled}
+use Rattle.reader.specs.Contracts.{readerAt, readOutcome, readerOf, outcomeOf, NextCalled}
 use Rattle.reader.specs.declared.Reader.{Reader}
-use Rattle.reader.specs.declared.Step.{Step}
+use Rattle.reader.specs.declared.ReadAt.{ReadAt}
 use Rattle.reader.proofs.Reader as T
 use Rattle.reader.proofs.Reader.Laws as T′
 use Rattle.reader.specs.declared.Handed.{Handed}
 use Rattle.reader.proofs.Handed as N
 use Rattle.reader.proofs.Handed.Laws as N′
-use Rattle.reader.proofs.Step as S
-use Rattle.reader.proofs.Step.Laws as S′
+use Rattle.reader.proofs.ReadAt as S
+use Rattle.reader.proofs.ReadAt.Laws as S′
 use Rattle.reader.proofs.read_at as read
 use Rattle.reader.proofs.read_at.Symbol as read-def
 use Rattle.reader.proofs.read_at.Symbol.{name as #reader·read-at}
@@ -64,9 +64,9 @@ use Rattle.reader.proofs.Reader.next.Statement as stated
 use Rattle.reader.proofs.Reader.next.Code as code
 
 -- what is known of the step is what is to be shown of the result
-called : (d : Reader) (r : Step) → stepOutcome (now (d .bytes)) r ≡ readNext (readerAt (now (d .bytes)) (d .position))
+called : (d : Reader) (r : ReadAt) → readOutcome (now (d .bytes)) r ≡ readNext (readerAt (now (d .bytes)) (d .position))
     → NextCalled d (record { reader = record { bytes = d .bytes; position = r .position }; answer = r .answer })
-unfolding stepOutcome readerOf outcomeOf
+unfolding readOutcome readerOf outcomeOf
 called d r e = record { same = refl; outcome = e }
 
 -- the struct's type, over the signature's lifetimes
@@ -89,8 +89,8 @@ module _ {M : Type 1} (𝓤 : URA M) (H : Heap 𝓤) (A : Atoms 𝓤) (W : Given
   v = sliceVal (d .bytes .ptr) (length (d .bytes .now))
 
   -- what is known of the step
-  abbrev Found : Step → Type 0
-  Found r = stepOutcome (now (d .bytes)) r ≡ readNext (readerAt (now (d .bytes)) (d .position))
+  abbrev Found : ReadAt → Type 0
+  Found r = readOutcome (now (d .bytes)) r ≡ readNext (readerAt (now (d .bytes)) (d .position))
 
   abbrev Post : Val → SProp 𝓤
   Post = walkOf 𝓤 H A next.ended stayed (next.clauses 𝓤 H A mem run) .post (((κ, tt), (q, tt), tt, (d, tt), (mach ∷ [], tt)), tt)
@@ -108,10 +108,10 @@ module _ {M : Type 1} (𝓤 : URA M) (H : Heap 𝓤) (A : Atoms 𝓤) (W : Given
   vd = (d .bytes, (d .position, tt))
 
   -- the reader of the result, the result, and their fields' values
-  abbrev d′ : Step → Reader
+  abbrev d′ : ReadAt → Reader
   d′ r = record { bytes = d .bytes; position = r .position }
 
-  abbrev h : Step → Handed
+  abbrev h : ReadAt → Handed
   h r = record { reader = d′ r; answer = r .answer }
 
   abbrev HD : Declared
@@ -120,24 +120,24 @@ module _ {M : Type 1} (𝓤 : URA M) (H : Heap 𝓤) (A : Atoms 𝓤) (W : Given
   abbrev HL : LL.Laws HD
   HL = N′.the-laws (namedLft 1 0 tt (κ, tt))
 
-  abbrev vh : Step → Values (HD .parts)
+  abbrev vh : ReadAt → Values (HD .parts)
   vh r = (d′ r, (r .answer, tt))
 
-  abbrev vs : Step → Values (S.the-type .parts)
+  abbrev vs : ReadAt → Values (S.the-type .parts)
   vs r = (r .position, (r .answer, tt))
 
   -- the machine values of the step and of the result
-  abbrev sv : Step → Val
+  abbrev sv : ReadAt → Val
   sv r = vstruct (spelled (S.the-type .parts) S′.the-laws (vs r))
 
-  abbrev hv : Step → Val
+  abbrev hv : ReadAt → Val
   hv r = vstruct (spelled (HD .parts) HL (vh r))
 
   -- what the step owns, by field
-  abbrev PositionOwn : Step → Fml
+  abbrev PositionOwn : ReadAt → Fml
   PositionOwn r = ownAt (S.the-type .parts) S′.the-laws 0 (r .position)
 
-  abbrev AnswerOwn : Step → Fml
+  abbrev AnswerOwn : ReadAt → Fml
   AnswerOwn r = rest (S.the-type .parts) S′.the-laws 0 (vs r)
 
   -- what the callee is passed
@@ -162,10 +162,10 @@ module _ {M : Type 1} (𝓤 : URA M) (H : Heap 𝓤) (A : Atoms 𝓤) (W : Given
       move ! (3 ∷ 0 ∷ []) $ use2 W (raw (ReadAt 𝓤 H A mem run .pre to)) asked $ frame ! $ fjoin ! $ done !)
 
   -- of the callee's `ensured`, the clause alone
-  said : (r : Step) → ent 𝓤 (ensured 𝓤 H A read.ended (read.clauses 𝓤 H A mem run) (κ, tt) (d .bytes, (d .position, tt)) tt r) (fact 𝓤 (Found r))
+  said : (r : ReadAt) → ent 𝓤 (ensured 𝓤 H A read.ended (read.clauses 𝓤 H A mem run) (κ, tt) (d .bytes, (d .position, tt)) tt r) (fact 𝓤 (Found r))
   said r = exE 𝓤 _ (λ ws. snd∗ 𝓤 (sem 𝓤 H A (lasts read.ended (κ, tt) (d .bytes, (d .position, tt)) ws)) (fact 𝓤 (Found r)))
 
-  exits : (r : Step) → Found r → ent 𝓤 (⋆ 𝓤 H A (‵ (PositionOwn r) ∷ ‵ (AnswerOwn r) ∷ (‵ (flft κ q) ⊛ ‵ ftrue) ∷ ‵ (fsep Own Own) ∷ [])) (Post (hv r))
+  exits : (r : ReadAt) → Found r → ent 𝓤 (⋆ 𝓤 H A (‵ (PositionOwn r) ∷ ‵ (AnswerOwn r) ∷ (‵ (flft κ q) ⊛ ‵ ftrue) ∷ ‵ (fsep Own Own) ∷ [])) (Post (hv r))
   exits r e =
       qed W (‵ (PositionOwn r) ∷ ‵ (AnswerOwn r) ∷ (‵ (flft κ q) ⊛ ‵ ftrue) ∷ ‵ (fsep Own Own) ∷ []) ∵
       suffices ! _ (ends-at 𝓤 H A next.ended stayed (next.clauses 𝓤 H A mem run) W (((κ, tt), (q, tt), tt, (d, tt), (mach ∷ [], tt)), tt) (hv r) (h r) (tt, tt) (tt, tt)) $
@@ -183,7 +183,7 @@ module _ {M : Type 1} (𝓤 : URA M) (H : Heap 𝓤) (A : Atoms 𝓤) (W : Given
         assigns ! (of-opd ! (load ! (from ! (fld ! refl (stop !))) (look-in ! 10 (sub ! 1 refl (whole !))))) (from ! (stop !)) (init ! 4 refl (tt, wt .1 .1 .0)) $
         move ! (14 ∷ []) $ use1 W (raw (ReadAt 𝓤 H A mem run .pre to) ⊛ ‵ (fsep Own Own)) (apart (wt .1 .1 .0 .fits)) $ split ! $
         calls-at ! fm (ReadAt 𝓤 H A mem run) known to (and-then ! (load ! (from ! (stop !)) (look ! 8 refl)) (and-then ! (load ! (from ! (stop !)) (look ! 6 refl)) (no-more !))) (λ u.
-        use1 W (later (some (λ (r : Step). ((‵ (flft κ q) ⊛ ‵ ftrue) ⊛ ‵ (S.the-row .own r (u ∷ []))) ⊛ raw (ensured 𝓤 H A read.ended (read.clauses 𝓤 H A mem run) (κ, tt) (d .bytes, (d .position, tt)) tt r)))) (id⊢ 𝓤 _) $ await ! tt $ pick ! (λ r.
+        use1 W (later (some (λ (r : ReadAt). ((‵ (flft κ q) ⊛ ‵ ftrue) ⊛ ‵ (S.the-row .own r (u ∷ []))) ⊛ raw (ensured 𝓤 H A read.ended (read.clauses 𝓤 H A mem run) (κ, tt) (d .bytes, (d .position, tt)) tt r)))) (id⊢ 𝓤 _) $ await ! tt $ pick ! (λ r.
         split ! $ move ! (1 ∷ []) $ use1 W (raw (fact 𝓤 (Found r))) (said r) $ heard ! (Found r) (λ e. split ! $ move ! (1 ∷ []) $
         -- [the step; the token; what the struct owns, twice; _6; …; _5; …; _4; …; _3; …; _2; …; _1; …; room for _0; …]
         peeks ! S.the-row (Is S.the-row) (shows 𝓤 H A S.the-row) r (u ∷ []) (λ is.
