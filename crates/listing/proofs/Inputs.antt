@@ -11,7 +11,7 @@ use lib.Seq.{take-all, take-length, drop-length}
 use borrow.Author.Tests.{lt-leb, le-ltb, ne-eqb}
 use Rattle.acorn_model.specs.Bits.{_if_else_}
 use Rattle.acorn_model.specs.declared.Written.{Written}
-use Rattle.acorn_model.specs.Calls.{done, writtenReply, writtenOver}
+use Rattle.acorn_model.specs.Calls.{refused, done, writtenReply, writtenOver}
 use Rattle.acorn_model.specs.Machine.{keyLength}
 use Rattle.acorn_model.specs.Message.{Result}
 use Rattle.acorn_model.proofs.Numbers.{lt-or-ge}
@@ -24,7 +24,7 @@ use Rattle.tape_model.specs.Listing.{headLine, ticketLines, totalLine, refusedL
 use Rattle.tape_model.specs.Laws.{Valid}
 use Rattle.tape_model.proofs.Tapes.{tapes-come-back}
 use Rattle.ticket.specs.Packing.{putInto}
-use Rattle.listing.specs.Contracts.{Listed, textRoom}
+use Rattle.listing.specs.Contracts.{Wrote, Listed, textRoom}
 use Rattle.listing.specs.Laws.{longestInput, ListingFacts}
 use Rattle.listing.proofs.Longest.{longest}
 
@@ -75,7 +75,7 @@ too-long : (input : List ℕ) → longestInput < length input → printed input 
 unfolding printed
 too-long input h = long-refused (take keyLength input) (drop keyLength input) (omega (arith, length-drop keyLength input))
 
-printed-length : (input : List ℕ) → length (printed input) ≤ textRoom
+pub printed-length : (input : List ℕ) → length (printed input) ≤ textRoom
 unfolding printed
 printed-length input = longest (take keyLength input) (drop keyLength input)
 
@@ -90,6 +90,19 @@ pub input-listed : (input out : List ℕ) (answer : Written) (after : List ℕ) 
 input-listed input out answer after room met =
     let e = sym met ∙ fits (printed input) out (omega (arith, printed-length input)) in
     (ap (λ (r : Result ℕ). r .answer) e, ap (λ (r : Result ℕ). r .out) e)
+
+-- the same by the answer: it is no refusal, and a length that was answered is the text's
+module _ (input out : List ℕ) (answer : Written) (after : List ℕ) (n : ℕ) (room : textRoom ≤ length out) (met : Listed (printed input) out answer after) where
+  pub not-refused : writtenReply answer ≡ refused n → ⊥
+  not-refused e =
+      let f : refused n ≡ done (length (printed input)) = sym e ∙ input-listed input out answer after room met .0 in
+      let z : _≡_ {A = ℕ} 0 1 = cc in omega arith
+
+  pub input-wrote : writtenReply answer ≡ done n → Wrote (printed input) out n after
+  input-wrote e =
+      let r = input-listed input out answer after room met in
+      let f : done n ≡ done (length (printed input)) = sym e ∙ r .0 in
+      record { count = cc; written = r .1 }
 
 pub listing-facts : ListingFacts
 listing-facts =

@@ -1,10 +1,11 @@
--- `listed`: the text's bytes lie within the room for the longest.
-use mathlib.Core.Path.{sym, ap, _∙_}
+-- `listed`: the text has room, so it is written and its length answered.
+use mathlib.Core.Path.{sym, ap}
+use native.Mathlib.Omega.{arith}
 use lib.Seq.{length-take-le}
 use borrow.Author.Needs.{needs}
-use Rattle.acorn_model.specs.declared.Written.{Written}
 use Rattle.acorn_model.specs.Calls.{writtenReply}
-use Rattle.listing.proofs.Inputs.{listing-within}
+use Rattle.listing.proofs.Texts.{wrote-within}
+use Rattle.listing.proofs.Inputs.{printed-length, not-refused, input-wrote}
 use Rattle.list_tape.proofs.listed.Statement.{statement}
 use Rattle.list_tape.proofs.listed.Tie as tie
 
@@ -21,7 +22,10 @@ same-length : tie.Need-same-length
 same-length c = search needs
 
 returns : tie.Need-returns
-returns c = search needs
+unfolding writtenReply
+returns c =
+    let s = c .before .before .before .before .before .before .before .before in
+    absurd (not-refused (s .args .input .now) (s .args .text .now) (c .before .before .before .before .list-input .result) (c .before .before .before .before .list-input .last .1 .0) (c .enum-told .given .0 .0) (omega (arith, s .pre)) (c .before .before .before .before .list-input .ensures) (ap writtenReply (c .enum-told .given .1)))
 
 same-length-2 : tie.Need-same-length-2
 same-length-2 c = search needs
@@ -31,9 +35,9 @@ unfolding writtenReply
 returns-2 c =
     let s = c .before .before .before .before .before .before .before .before .before in
     let call = c .before .before .before .before .before .list-input in
-    let e = call .ensures ∙ ap (λ (r : Written). record { answer = writtenReply r; out = call .last .1 .0 }) (c .before .n .given .1) in
-    let within = listing-within (s .args .input .now) (s .args .text .now) _ _ (s .pre) (call .kept .1 .0) e in
-    (within, sym (length-take-le _ _ within))
+    let w = input-wrote (s .args .input .now) (s .args .text .now) (call .result) (call .last .1 .0) (c .before .n .given .0 .0) (omega (arith, s .pre)) (call .ensures) (ap writtenReply (c .before .n .given .1)) in
+    let within = wrote-within (omega (arith, s .pre, printed-length (s .args .input .now))) w in
+    (w, (within, sym (length-take-le _ _ within)))
 
 pub listed-spec : {M : Type 1} → statement M
 listed-spec =
