@@ -35,6 +35,12 @@ chain true true true short e = absurd (omega arith)
 chain true true false true e = absurd (omega arith)
 chain true true false false e = (refl, refl, refl, refl)
 
+-- the number of a call whose four tests come out so
+pub by-tests : {s : Session} {c : Call} (allowed sized over short : Bool) → phaseAllows (machineOf s .kind) (machineOf s .phase) c ≡ allowed → sizesRight c ≡ sized
+    → overLimit (machineOf s .counts) c ≡ over → outputShort c ≡ short → Numbered s c (1 if not allowed else 2 if not sized else 5 if over else 6 if short else accepted)
+unfolding refusal
+by-tests allowed sized over short a z o r = record { is = rw (a, z, o, r) }
+
 refused-if : {A : Type 0} (n : ℕ) (a b : A) → (n ≡ 0 → ⊥) → unlessRefused n a b ≡ b
 unfolding unlessRefused
 refused-if zero a b z = absurd (z refl)

@@ -37,8 +37,8 @@ pub struct Session {
     data_bytes: u64,
     text_bytes: u64,
     steps: u64,
-    kind: Kind,
     phase: Phase,
+    kind: Kind,
 }
 
 // What a call answered, and the session after it.
@@ -148,7 +148,8 @@ impl Session {
         }
     }
 
-    // A sealing session writes the ciphertext of the piece.
+    // A sealing session writes the ciphertext of the piece. The tests stand one after the other, so that the call stays small enough to be
+    // compiled into each of its callers.
     pub fn seal_text(self, piece: &[u8], out: &mut [u8]) -> Reply
         ensures { λ r. ⌜ Called self (machine.sealText (now (piece .entry)) (now (out .entry))) r (now (out .exit)) ⌝ }
     {
@@ -158,9 +159,14 @@ impl Session {
         let allowed = is_sealing(kind) & takes_text(phase);
         let over = over_limit(taken, piece.len());
         let short = out.len() < piece.len();
-        let number = refusal::number(allowed, true, over, short);
-        if number != 0 {
-            return self.refused(number);
+        if !allowed {
+            return self.refused(1);
+        }
+        if over {
+            return self.refused(5);
+        }
+        if short {
+            return self.refused(6);
         }
         let held = self.state;
         let sealed = acorn::seal_text(data_ended(phase, held), piece, out);

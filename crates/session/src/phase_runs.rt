@@ -11,14 +11,30 @@ ghost use Rattle.acorn_model.specs.Stretches.{through, textPiece, textEnd};
 ghost use Rattle.acorn.specs.Together.{stateOf};
 ghost use Rattle.session.specs.Contracts.{endedState, endedSteps};
 
+// The same state, taken word by word. A state that is taken whole goes by two words at a time, and waits where a run has just stored
+// them one by one.
+fn by_words(state: State) -> State
+    ensures { λ r. ⌜ r ≡ state ⌝ }
+{
+    State {
+        w0: state.w0,
+        w1: state.w1,
+        w2: state.w2,
+        w3: state.w3,
+        w4: state.w4,
+        w5: state.w5,
+    }
+}
+
 pub(crate) fn data_ended(phase: Phase, state: State) -> State
     ensures { λ r. ⌜ stateOf r ≡ endedState phase (stateOf state) ⌝ }
 {
+    let mut t = by_words(state);
     if is_data(phase) {
-        end_data(state)
-    } else {
-        state
+        let ended = end_data(t);
+        t = ended;
     }
+    t
 }
 
 // The steps of that data end.

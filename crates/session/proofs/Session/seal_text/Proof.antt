@@ -1,29 +1,32 @@
 -- `Session::seal_text` meets its contract.
 use mathlib.Core.Path.{refl, sym, ap₂, _∙_}
-use mathlib.Core.Bool.{false, _&&_, _||_}
-use Prim.Native.Nat.{_+_, _≤_}
+use mathlib.Core.Bool.{true, false, not, _&&_, _||_}
+use Prim.Native.Nat.{_+_}
 use native.Mathlib.Omega.{arith}
 use borrow.Author.Needs.{needs}
 use borrow.Author.Tests.{ltb-false}
+use lib.Dec.{ltb}
 use lib.ListN.{length}
+use Rattle.acorn_model.specs.Bits.{_if_else_}
+use Rattle.acorn_model.specs.Calls.{accepted}
 use Rattle.acorn_model.specs.Machine.{sealText, outputOf, isData, isText, phaseAllows, sizesRight, byteLimit, overLimit, outputShort, dataEnded, textTaken, work}
 use Rattle.acorn_model.proofs.Outputs.{textOut-length}
 use Rattle.session.specs.Contracts.{machineOf}
 use Rattle.session.proofs.NextSession.{text-state, sealed-output, sealing-only}
-use Rattle.session.proofs.Replies.{Numbered, passes, refuses, writes}
+use Rattle.session.proofs.Replies.{Numbered, by-tests, passes, refuses, writes}
 use Rattle.session.proofs.Session.seal_text.Statement.{statement}
 use Rattle.session.proofs.Session.seal_text.Tie as tie
 
-number-is : (c : tie.After-number) → let a = c .before .before .before .before .before .before .args in Numbered (a .self) (sealText (a .piece .now) (a .out .now)) (c .number .result)
+number-is : (c : tie.After-over-limit) → let a = c .before .before .before .before .before .args in let allowed = c .before .before .is-sealing .result && c .before .takes-text .result in
+    Numbered (a .self) (sealText (a .piece .now) (a .out .now)) (1 if not allowed else 5 if c .over-limit .result else 6 if ltb (length (a .out .now)) (length (a .piece .now)) else accepted)
 unfolding machineOf phaseAllows sizesRight overLimit outputShort
 number-is c =
-    let allowed = ap₂ _&&_ (c .before .before .before .is-sealing .ensures) (c .before .before .takes-text .ensures) in
-    record { is = c .number .ensures _ _ (sym allowed) refl (sym (c .before .over-limit .ensures)) refl }
+    let allowed = ap₂ _&&_ (c .before .before .is-sealing .ensures) (c .before .takes-text .ensures) in
+    by-tests _ true _ _ (sym allowed) refl (sym (c .over-limit .ensures)) refl
 
--- the piece of an accepted call
-fits : (c : tie.Else1) → let a = c .before .before .before .before .before .before .before .args in a .self .«text_bytes» + length (a .piece .now) ≤ byteLimit
-unfolding machineOf overLimit
-fits c = let a = c .before .before .before .before .before .before .before .args in ltb-false byteLimit (a .self .«text_bytes» + length (a .piece .now)) (passes (number-is (c .before)) (c .if1 .left) .fits)
+-- no number applies to an accepted call
+none-applies : (c : tie.Else3) → let a = c .before .before .before .before .before .before .before .before .args in Numbered (a .self) (sealText (a .piece .now) (a .out .now)) accepted
+none-applies c = rw (c .before .before .if1 .left, c .before .if2 .left, c .if3 .left) at (number-is (c .before .before .before))
 
 is-sealing-requires : tie.Need-is-sealing-requires
 is-sealing-requires c κs = search needs
@@ -34,15 +37,27 @@ takes-text-requires c κs = search needs
 over-limit-requires : tie.Need-over-limit-requires
 over-limit-requires c κs = search needs
 
-number-requires : tie.Need-number-requires
-number-requires c κs = search needs
-
 refused-requires : tie.Need-refused-requires
 refused-requires c κs = search needs
 
 returns : tie.Need-returns
 unfolding outputOf
-returns c = refuses (number-is (c .before .before)) (c .before .if1 .taken) (omega arith) _ (c .refused .ensures)
+returns c = refuses (rw (c .before .if1 .taken) at (number-is (c .before .before))) (omega arith) (omega arith) _ (c .refused .ensures)
+
+refused-requires-2 : tie.Need-refused-requires-2
+refused-requires-2 c κs = search needs
+
+returns-2 : tie.Need-returns-2
+unfolding outputOf
+returns-2 c = refuses (rw (c .before .before .if1 .left, c .before .if2 .taken) at (number-is (c .before .before .before))) (omega arith) (omega arith) _ (c .refused2 .ensures)
+
+refused-requires-3 : tie.Need-refused-requires-3
+refused-requires-3 c κs = search needs
+
+returns-3 : tie.Need-returns-3
+unfolding outputOf
+returns-3 c =
+    refuses (rw (c .before .before .before .if1 .left, c .before .before .if2 .left, c .before .if3 .taken) at (number-is (c .before .before .before .before))) (omega arith) (omega arith) _ (c .refused3 .ensures)
 
 data-ended-requires : tie.Need-data-ended-requires
 data-ended-requires c κs = search needs
@@ -51,7 +66,11 @@ seal-text-requires : tie.Need-seal-text-requires
 seal-text-requires c κs = search needs
 
 text-taken-requires : tie.Need-text-taken-requires
-text-taken-requires c κs = fits (c .before .before .before .before .before .before)
+unfolding machineOf overLimit
+text-taken-requires c κs =
+    let accept = c .before .before .before .before .before .before in
+    let a = accept .before .before .before .before .before .before .before .before .args in
+    ltb-false byteLimit (a .self .«text_bytes» + length (a .piece .now)) (passes (none-applies accept) refl .fits)
 
 done-requires : tie.Need-done-requires
 done-requires c κs = search needs
@@ -59,20 +78,20 @@ done-requires c κs = search needs
 same-length : tie.Need-same-length
 same-length c = search needs
 
-returns-2 : tie.Need-returns-2
+returns-4 : tie.Need-returns-4
 unfolding machineOf phaseAllows outputShort work
-returns-2 c =
+returns-4 c =
     let next = c .before .text-taken in
     let text = c .before .before .before .before .seal-text in
     let ended = c .before .before .before .before .before .before .data-ended in
     let accept = c .before .before .before .before .before .before .before .before in
-    let a = accept .before .before .before .before .before .before .before .args in
-    let n = number-is (accept .before) in
-    let p = passes n (accept .if1 .left) in
+    let a = accept .before .before .before .before .before .before .before .before .args in
+    let n = none-applies accept in
+    let p = passes n refl in
     let seals = sealing-only (a .self .kind) (isData (a .self .phase) || isText (a .self .phase)) (p .allowed) in
     let state = rw (p .room, ended .ensures) at (text .ensures .state) ∙ text-state (a .self) (a .piece .now) false seals in
     let output = rw (p .room, ended .ensures) at (text .ensures .output) ∙ sealed-output (a .self) (a .piece .now) (a .out .now) in
-    writes n (accept .if1 .left) _ (a .out .now) (textTaken (a .piece .now) (machineOf (a .self))) refl (next .result) (next .ensures state)
+    writes n refl _ (a .out .now) (textTaken (a .piece .now) (machineOf (a .self))) refl (next .result) (next .ensures state)
     (length (a .piece .now)) (sym (textOut-length false (a .piece .now) (dataEnded (machineOf (a .self)) .state))) _ output _ (c .done .ensures)
 
 pub seal-text-spec : {M : Type 1} → statement M
@@ -82,12 +101,15 @@ seal-text-spec =
     is-sealing-requires
     takes-text-requires
     over-limit-requires
-    number-requires
     refused-requires
     returns
+    refused-requires-2
+    returns-2
+    refused-requires-3
+    returns-3
     data-ended-requires
     seal-text-requires
     text-taken-requires
     done-requires
     same-length
-    returns-2)
+    returns-4)
