@@ -1,9 +1,9 @@
-/* The haul tape library: ACORN-128 v3, haul tickets and shift tapes. Link libhaul_tape.a, which needs the C library's memset and
- * no more.
+/* The haul tape library: ACORN-128 v3, haul tickets and shift tapes. Link libhaul_tape.a, which needs the C library's memcpy and
+ * memset and no more.
  *
  * Nothing here allocates or keeps anything: sessions and writers are structs of words that the caller places, and every
- * buffer comes with its length. No call reads or writes beyond the lengths given. Buffers of one call must not overlap, and
- * a pointer must not be null, not even with length 0.
+ * buffer comes with its length. No call reads or writes beyond the lengths given. An output must not overlap anything else that
+ * the call is given, and a pointer must not be null, not even with length 0.
  *
  * A key and nonce must serve one message only, and a key and head one tape only: the caller sees to that.
  *
@@ -43,7 +43,7 @@ extern "C" {
 #define HT_MOST_TICKETS 5000   /* on one tape */
 #define HT_MOST_TAPE_BYTES 65025
 #define HT_MOST_PLAIN_BYTES 65000
-#define HT_MOST_LISTING_BYTES 190054
+#define HT_MOST_LISTING_BYTES 190054 /* room for every listing */
 
 /* ---- answers ---- */
 
@@ -137,7 +137,7 @@ typedef struct { uint32_t refused; uint32_t at_end; uint64_t position; ht_ticket
 ht_reading ht_read_ticket(const uint8_t *plain, size_t plainlen, uint64_t position);
 
 /* The listing of a tape as ASCII text: 'TAPE', device, shift and sheet; a line a ticket; 'TOTAL', tickets and total net. Of a tape
- * that does not open the text is 'REFUSED' and the number, and the call is done. 6 where the text does not fit. Uses up to 320 KiB
+ * that does not open the text is 'REFUSED' and the number, and the call is done. 6 where the text does not fit. Uses some 325 KiB
  * of the stack. */
 ht_written ht_list_tape(const uint8_t *key, size_t keylen, const uint8_t *tape, size_t tapelen, uint8_t *out, size_t outlen);
 

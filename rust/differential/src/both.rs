@@ -1,0 +1,296 @@
+//! Calls made on library and twin at once. Each answers what both said, with the output after it;
+//! where the two differ it panics.
+
+use haul_tape::exports::{self, Answer, Written};
+use haul_tape::{Head, Reader, Ticket};
+use haul_tape_twin::machine::Done;
+use haul_tape_twin::reader::{self, Next};
+use haul_tape_twin::{listing, message, tape, ticket};
+use std::fmt::Debug;
+
+/// What a call answered, and its output after it.
+#[derive(Clone, PartialEq, Eq, Debug)]
+pub struct Ran<T> {
+    pub answer: Result<T, u8>,
+    pub out: Vec<u8>,
+}
+
+/// An output before a call: no byte is zero, and neighbours differ, so that a byte written where
+/// none belongs is seen.
+pub fn pattern(length: usize) -> Vec<u8> {
+    (0..length).map(|i| (i % 251) as u8 + 5).collect()
+}
+
+/// Sees that two byte strings are the same, and else says where they part.
+#[track_caller]
+pub fn same_bytes(what: &str, library: &[u8], twin: &[u8]) {
+    if library != twin {
+        let place = library.iter().zip(twin).take_while(|(a, b)| a == b).count();
+        panic!(
+            "{what}: library and twin part at byte {place} (of {} and {})",
+            library.len(),
+            twin.len()
+        );
+    }
+}
+
+/// Makes a call that writes, with inputs and the length of its output, on the library and on the
+/// twin.
+#[track_caller]
+pub(crate) fn agree<T: PartialEq + Debug>(
+    what: &str,
+    inputs: &[&[u8]],
+    room: usize,
+    library: impl FnOnce(&mut [u8]) -> Result<T, u8>,
+    twin: impl FnOnce(&mut [u8]) -> Result<T, u8>,
+) -> Ran<T> {
+    let before: Vec<Vec<u8>> = inputs.iter().map(|input| input.to_vec()).collect();
+    let mut library_out = pattern(room);
+    let answer = library(&mut library_out);
+    for (input, before) in inputs.iter().zip(&before) {
+        same_bytes("an input after the call", input, before);
+    }
+    let mut twin_out = pattern(room);
+    let twin_answer = twin(&mut twin_out);
+    assert_eq!(answer, twin_answer, "{what}: library and twin differ");
+    same_bytes(what, &library_out, &twin_out);
+    Ran {
+        answer,
+        out: library_out,
+    }
+}
+
+/// An answer of the library in the twin's form. A refusal says nothing besides its number.
+pub(crate) fn done(answer: Answer) -> Result<Done, u8> {
+    if answer.refused == 0 {
+        return Ok(Done {
+            bytes: answer.bytes as usize,
+            steps: answer.steps,
+        });
+    }
+    assert_eq!((answer.bytes, answer.steps), (0, 0), "beside a refusal");
+    Err(answer.refused as u8)
+}
+
+fn written(written: Written) -> Result<usize, u8> {
+    if written.refused == 0 {
+        return Ok(written.bytes as usize);
+    }
+    assert_eq!(written.bytes, 0, "beside a refusal");
+    Err(written.refused as u8)
+}
+
+/// The ticket in the twin's form.
+pub fn twin_ticket(t: Ticket) -> ticket::Ticket {
+    ticket::Ticket {
+        form: t.form,
+        truck: t.truck,
+        shovel: t.shovel,
+        tip: t.tip,
+        grade: t.grade,
+        loaded: t.loaded,
+        tipped: t.tipped,
+        gross: t.gross,
+        tare: t.tare,
+    }
+}
+
+/// The head in the twin's form.
+pub fn twin_head(h: Head) -> ticket::Head {
+    ticket::Head {
+        device: h.device,
+        shift: h.shift,
+        sheet: h.sheet,
+    }
+}
+
+/// Seals into an output of `room` bytes.
+#[track_caller]
+pub fn seal(key: &[u8], nonce: &[u8], data: &[u8], text: &[u8], room: usize) -> Ran<usize> {
+    agree(
+        "seal",
+        &[key, nonce, data, text],
+        room,
+        |out| written(exports::seal(key, nonce, data, text, out)),
+        |out| message::seal(key, nonce, data, text, out),
+    )
+}
+
+/// Opens into an output of `room` bytes.
+#[track_caller]
+pub fn open(key: &[u8], nonce: &[u8], data: &[u8], sealed: &[u8], room: usize) -> Ran<usize> {
+    agree(
+        "open",
+        &[key, nonce, data, sealed],
+        room,
+        |out| written(exports::open(key, nonce, data, sealed, out)),
+        |out| message::open(key, nonce, data, sealed, out),
+    )
+}
+
+/// Packs a ticket into an output of `room` bytes.
+#[track_caller]
+pub fn pack_ticket(ticket: Ticket, room: usize) -> Ran<usize> {
+    agree(
+        "pack a ticket",
+        &[],
+        room,
+        |out| written(exports::pack_ticket(ticket, out)),
+        |out| ticket::pack(&twin_ticket(ticket), out),
+    )
+}
+
+/// Packs a head into an output of `room` bytes.
+#[track_caller]
+pub fn pack_head(head: Head, room: usize) -> Ran<usize> {
+    agree(
+        "pack a head",
+        &[],
+        room,
+        |out| written(exports::pack_head(head, out)),
+        |out| ticket::pack_head(&twin_head(head), out),
+    )
+}
+
+/// Unpacks a ticket.
+#[track_caller]
+pub fn unpack_ticket(packed: &[u8]) -> Result<Ticket, u8> {
+    let library = exports::unpack_ticket(packed);
+    match ticket::unpack(packed) {
+        Ok(twin) => {
+            assert_eq!(library.refused, 0, "unpack a ticket");
+            assert_eq!(twin_ticket(library.ticket), twin);
+            Ok(library.ticket)
+        }
+        Err(number) => {
+            assert_eq!(library.refused, number.into(), "unpack a ticket");
+            assert_eq!(library.ticket, NO_TICKET);
+            Err(number)
+        }
+    }
+}
+
+/// Unpacks a head.
+#[track_caller]
+pub fn unpack_head(packed: &[u8]) -> Result<Head, u8> {
+    let library = exports::unpack_head(packed);
+    match ticket::unpack_head(packed) {
+        Ok(twin) => {
+            assert_eq!(library.refused, 0, "unpack a head");
+            assert_eq!(twin_head(library.head), twin);
+            Ok(library.head)
+        }
+        Err(number) => {
+            assert_eq!(library.refused, number.into(), "unpack a head");
+            assert_eq!(library.head, NO_HEAD);
+            Err(number)
+        }
+    }
+}
+
+/// What stands in place of a ticket where there is none.
+const NO_TICKET: Ticket = Ticket {
+    form: 0,
+    truck: 0,
+    shovel: 0,
+    tip: 0,
+    grade: 0,
+    loaded: 0,
+    tipped: 0,
+    gross: 0,
+    tare: 0,
+};
+
+/// What stands in place of a head where there is none.
+const NO_HEAD: Head = Head {
+    device: 0,
+    shift: 0,
+    sheet: 0,
+};
+
+/// Opens a tape into an output of `room` bytes. Answers tickets and total net.
+#[track_caller]
+pub fn open_tape(key: &[u8], tape: &[u8], room: usize) -> Ran<(u64, u64)> {
+    agree(
+        "open a tape",
+        &[key, tape],
+        room,
+        |out| {
+            let opened = exports::open_tape(key, tape, out);
+            if opened.refused == 0 {
+                return Ok((opened.tickets, opened.net));
+            }
+            assert_eq!((opened.tickets, opened.net), (0, 0), "beside a refusal");
+            Err(opened.refused as u8)
+        },
+        |out| tape::open_tape(key, tape, out),
+    )
+}
+
+/// Lists a tape.
+#[track_caller]
+pub fn listing(key: &[u8], tape: &[u8]) -> Vec<u8> {
+    let text = listing::listing(key, tape);
+    for room in [text.len(), text.len() + 7, haul_tape::MOST_LISTING_BYTES] {
+        let mut out = pattern(room);
+        let answer = written(exports::list_tape(key, tape, &mut out));
+        assert_eq!(answer, Ok(text.len()), "list a tape");
+        same_bytes("list a tape", &out[..text.len()], &text);
+        let behind = &pattern(room)[text.len()..];
+        same_bytes("behind a listing", &out[text.len()..], behind);
+    }
+    let mut short = pattern(text.len() - 1);
+    let answer = written(exports::list_tape(key, tape, &mut short));
+    assert_eq!(answer, Err(6), "list a tape");
+    same_bytes("list a tape", &short, &pattern(text.len() - 1));
+    text
+}
+
+/// Reads all tickets of opened bytes, and goes on a few times after the last. Answers them, and the
+/// number that ended the reading if one did.
+#[track_caller]
+pub fn read(plain: &[u8]) -> (Vec<Ticket>, Option<u8>) {
+    let mut tickets = Vec::new();
+    let mut twin = reader::Reader::new(plain);
+    let end = loop {
+        let before = twin.position();
+        let library = exports::read_ticket(plain, before);
+        match twin.next() {
+            Next::Ticket(ticket) => {
+                assert_eq!((library.refused, library.at_end), (0, 0), "read");
+                assert_eq!(twin_ticket(library.ticket), ticket);
+                assert_eq!(library.position, twin.position());
+                tickets.push(library.ticket);
+            }
+            Next::End => {
+                assert_eq!((library.refused, library.at_end), (0, 1), "read");
+                assert_eq!(library.position, before);
+                assert_eq!(library.ticket, NO_TICKET);
+                break None;
+            }
+            Next::Refused(number) => {
+                assert_eq!((library.refused, library.at_end), (number.into(), 0));
+                assert_eq!(library.position, before);
+                assert_eq!(library.ticket, NO_TICKET);
+                break Some(number);
+            }
+        }
+    };
+    let last = twin.position();
+    for _ in 0..3 {
+        twin.next();
+        assert_eq!(twin.position(), last);
+    }
+
+    let mut items: Vec<_> = tickets.iter().copied().map(Ok).collect();
+    items.extend(end.map(Err));
+    let mut reader = Reader::new(plain);
+    let handed_out: Vec<_> = reader
+        .by_ref()
+        .map(|item| item.map_err(|refusal| refusal.number()))
+        .collect();
+    assert_eq!(handed_out, items);
+    assert_eq!(reader.position(), tickets.len());
+    assert!(reader.next().is_none());
+    (tickets, end)
+}

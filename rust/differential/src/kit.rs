@@ -1,0 +1,226 @@
+//! The conformance kit: its files, made by the library and checked against the twin on the way.
+//!
+//! The kit's README says what stands in them. They come out the same every time.
+
+mod lists;
+mod messages;
+mod packed;
+mod tapes;
+
+use haul_tape::{Head, Ticket};
+use std::fmt::Display;
+
+/// A file of the kit, with its name below the kit's directory.
+pub struct File {
+    pub name: String,
+    pub bytes: Vec<u8>,
+}
+
+impl File {
+    fn text(name: &str, lines: Vec<String>) -> File {
+        File {
+            name: name.to_string(),
+            bytes: (lines.join("\n") + "\n").into_bytes(),
+        }
+    }
+}
+
+/// All files of the kit but its README and its script.
+pub fn files() -> Vec<File> {
+    let mut files = vec![
+        messages::messages(),
+        messages::long_messages(),
+        messages::refused_messages(),
+        packed::packed(),
+        lists::calls(),
+    ];
+    files.extend(tapes::tapes());
+    files
+}
+
+/// The published answers, in the form of the kit's messages.
+pub const PUBLISHED: &str = include_str!("../published.txt");
+
+/// Bytes in hexadecimal, `-` for none.
+pub fn hex(bytes: &[u8]) -> String {
+    if bytes.is_empty() {
+        return "-".to_string();
+    }
+    bytes.iter().map(|byte| format!("{byte:02x}")).collect()
+}
+
+/// The bytes that a field of the kit stands for: hexadecimal, `-`, or `*` and a length.
+pub fn bytes_of(field: &str) -> Vec<u8> {
+    if field == "-" {
+        return Vec::new();
+    }
+    if let Some(length) = field.strip_prefix('*') {
+        return by_rule(length.parse().expect("a length"));
+    }
+    assert!(field.len().is_multiple_of(2), "two digits a byte: {field}");
+    (0..field.len())
+        .step_by(2)
+        .map(|at| u8::from_str_radix(&field[at..at + 2], 16).expect("hexadecimal"))
+        .collect()
+}
+
+/// Bytes too many to write down: byte i, counted from 0, is 167 i plus i / 256 rounded down, modulo
+/// 256.
+pub fn by_rule(length: usize) -> Vec<u8> {
+    (0..length).map(|i| (167 * i + i / 256) as u8).collect()
+}
+
+/// `by_rule`, as a field.
+fn star(length: usize) -> String {
+    format!("*{length}")
+}
+
+/// Fields with a space between them.
+fn line(fields: &[&dyn Display]) -> String {
+    let fields: Vec<String> = fields.iter().map(|field| field.to_string()).collect();
+    fields.join(" ")
+}
+
+fn head_fields(h: Head) -> String {
+    line(&[&h.device, &h.shift, &h.sheet])
+}
+
+fn ticket_fields(t: Ticket) -> String {
+    line(&[
+        &t.form, &t.truck, &t.shovel, &t.tip, &t.grade, &t.loaded, &t.tipped, &t.gross, &t.tare,
+    ])
+}
+
+/// Document 01's ticket, case (h).
+const TICKET: Ticket = Ticket {
+    form: 1,
+    truck: 5,
+    shovel: 2,
+    tip: 3,
+    grade: 4,
+    loaded: 3_600,
+    tipped: 4_200,
+    gross: 250_000,
+    tare: 110_000,
+};
+
+/// Document 01's head, case (i).
+const HEAD: Head = Head {
+    device: 7,
+    shift: 2,
+    sheet: 1,
+};
+
+/// The ticket with the smallest values.
+const SMALLEST: Ticket = Ticket {
+    form: 1,
+    truck: 1,
+    shovel: 1,
+    tip: 1,
+    grade: 0,
+    loaded: 0,
+    tipped: 0,
+    gross: 1,
+    tare: 0,
+};
+
+/// The ticket with the greatest values.
+const GREATEST: Ticket = Ticket {
+    form: 1,
+    truck: 1_023,
+    shovel: 63,
+    tip: 63,
+    grade: 9,
+    loaded: 43_199,
+    tipped: 43_199,
+    gross: 1_048_575,
+    tare: 1_048_574,
+};
+
+/// Tickets that break the rule, each in one place.
+fn broken_tickets() -> Vec<Ticket> {
+    let t = TICKET;
+    vec![
+        Ticket { form: 0, ..t },
+        Ticket { form: 2, ..t },
+        Ticket { truck: 0, ..t },
+        Ticket { truck: 1_024, ..t },
+        Ticket { shovel: 0, ..t },
+        Ticket { shovel: 64, ..t },
+        Ticket { tip: 0, ..t },
+        Ticket { tip: 64, ..t },
+        Ticket { grade: 10, ..t },
+        Ticket { loaded: 4_201, ..t },
+        Ticket {
+            tipped: 43_200,
+            ..t
+        },
+        Ticket {
+            gross: 1_048_576,
+            ..t
+        },
+        Ticket { tare: 250_000, ..t },
+        Ticket { tare: 250_001, ..t },
+        Ticket {
+            gross: 0,
+            tare: 0,
+            ..t
+        },
+    ]
+}
+
+/// Heads with one field outside its range.
+fn broken_heads() -> Vec<Head> {
+    let h = HEAD;
+    vec![
+        Head { device: 0, ..h },
+        Head { shift: 0, ..h },
+        Head {
+            shift: 1_000_001,
+            ..h
+        },
+        Head { sheet: 0, ..h },
+        Head {
+            sheet: 1_000_001,
+            ..h
+        },
+    ]
+}
+
+/// Values and widths one behind the other, from the most significant bit of the first byte; `None`
+/// if a value does not fit its width.
+fn packed_fields<const BYTES: usize>(fields: &[(u32, u32)]) -> Option<[u8; BYTES]> {
+    let mut bits: u128 = 0;
+    let mut filled = 0;
+    for &(value, width) in fields {
+        if u64::from(value) >= 1 << width {
+            return None;
+        }
+        bits = bits << width | u128::from(value);
+        filled += width;
+    }
+    (bits << (128 - filled)).to_be_bytes()[..BYTES]
+        .try_into()
+        .ok()
+}
+
+/// The packed bytes of a ticket, even if it breaks the rule.
+fn pack_anyway(t: Ticket) -> Option<[u8; 13]> {
+    packed_fields(&[
+        (t.form.into(), 4),
+        (t.truck.into(), 10),
+        (t.shovel.into(), 6),
+        (t.tip.into(), 6),
+        (t.grade.into(), 4),
+        (t.loaded, 16),
+        (t.tipped, 16),
+        (t.gross, 20),
+        (t.tare, 20),
+        (0, 2),
+    ])
+}
+
+/// The packed bytes of a head, even if a field is outside its range.
+fn pack_head_anyway(h: Head) -> Option<[u8; 9]> {
+    packed_fields(&[(h.device, 32), (h.shift, 20), (h.sheet, 20)])
+}

@@ -1,0 +1,345 @@
+//! Lists of calls on sessions and writers.
+
+use super::{broken_heads, broken_tickets, head_fields, hex, line, star, ticket_fields, File};
+use super::{GREATEST, HEAD, SMALLEST, TICKET};
+use crate::both::{self, Ran};
+use crate::calls::{SessionCall, Sessions, WriterCall, Writers};
+use crate::random::{turned, Random};
+use haul_tape_twin::machine::{Done, Kind};
+use SessionCall::{Begin, CheckClose, CheckText, Data, SealClose, SealText};
+use WriterCall::{Add, Finish, Start};
+
+/// A byte field: by rule if it is long.
+fn field(bytes: &[u8]) -> String {
+    if bytes.len() > 1_000 {
+        assert_eq!(bytes, super::by_rule(bytes.len()));
+        return star(bytes.len());
+    }
+    hex(bytes)
+}
+
+fn session_line(call: &SessionCall) -> String {
+    match call {
+        Begin { key, nonce } => line(&[&"begin", &field(key), &field(nonce)]),
+        Data { piece } => line(&[&"data", &field(piece)]),
+        SealText { piece, room } => line(&[&"seal_text", &field(piece), room]),
+        SealClose { room } => line(&[&"seal_close", room]),
+        CheckText { piece } => line(&[&"check_text", &field(piece)]),
+        CheckClose { tag } => line(&[&"check_close", &field(tag)]),
+    }
+}
+
+fn writer_line(call: &WriterCall) -> String {
+    match call {
+        Start { key, head, room } => line(&[&"start", &field(key), &head_fields(*head), room]),
+        Add { ticket, room } => line(&[&"add", &ticket_fields(*ticket), room]),
+        Finish { room } => line(&[&"finish", room]),
+    }
+}
+
+fn answered(ran: &Ran<Done>) -> String {
+    match ran.answer {
+        Ok(done) => {
+            let out = hex(&ran.out[..done.bytes]);
+            line(&[&"done", &done.bytes, &done.steps, &out])
+        }
+        Err(number) => line(&[&"refused", &number]),
+    }
+}
+
+/// Lines of the file, list after list.
+struct Lines(Vec<String>);
+
+impl Lines {
+    fn session(&mut self, title: &str, kind: Kind, calls: &[SessionCall]) {
+        self.0.push(format!("\n# {title}"));
+        self.0.push(match kind {
+            Kind::Sealing => "list sealing".to_string(),
+            Kind::Checking => "list checking".to_string(),
+        });
+        let mut sessions = Sessions::fresh(kind);
+        for call in calls {
+            let ran = sessions.call(call);
+            self.0
+                .push(format!("{} = {}", session_line(call), answered(&ran)));
+        }
+    }
+
+    fn writer(&mut self, title: &str, calls: &[WriterCall]) {
+        self.0.push(format!("\n# {title}"));
+        self.0.push("list writer".to_string());
+        let mut writers = Writers::fresh();
+        for call in calls {
+            let ran = writers.call(call);
+            self.0
+                .push(format!("{} = {}", writer_line(call), answered(&ran)));
+        }
+    }
+}
+
+pub(super) fn calls() -> File {
+    let mut lines = Lines(vec!["# call arguments = answer".to_string()]);
+    sessions(&mut lines);
+    writers(&mut lines);
+    File::text("calls.txt", lines.0)
+}
+
+fn sessions(lines: &mut Lines) {
+    let mut random = Random::new(5);
+    let (key, nonce) = (random.bytes(16), random.bytes(16));
+    let begin = || Begin {
+        key: key.clone(),
+        nonce: nonce.clone(),
+    };
+    let data = |piece: &[u8]| Data {
+        piece: piece.to_vec(),
+    };
+    let seal = |piece: &[u8]| SealText {
+        piece: piece.to_vec(),
+        room: piece.len(),
+    };
+    let check = |piece: &[u8]| CheckText {
+        piece: piece.to_vec(),
+    };
+    let close = || SealClose { room: 16 };
+    let give = |tag: &[u8]| CheckClose { tag: tag.to_vec() };
+
+    lines.session("Nothing taken.", Kind::Sealing, &[begin(), close()]);
+    lines.session(
+        "An empty text ends the data.",
+        Kind::Sealing,
+        &[begin(), seal(&[]), data(&[1]), seal(&[]), close()],
+    );
+
+    // One message, cut in several ways.
+    let (head, text) = (random.bytes(22), random.bytes(90));
+    let sealed = both::seal(&key, &nonce, &head, &text, 106).out;
+    let (ciphertext, tag) = sealed.split_at(90);
+    let cuts: [(&str, &[usize], &[usize]); 5] = [
+        ("A message in one piece.", &[22], &[90]),
+        ("The same in two.", &[9, 13], &[45, 45]),
+        (
+            "The same in bytes and words.",
+            &[1, 1, 4, 16],
+            &[1, 2, 3, 4, 5, 7, 8, 60],
+        ),
+        (
+            "The same, with empty pieces.",
+            &[0, 22, 0, 0],
+            &[0, 0, 64, 0, 26, 0],
+        ),
+        ("The same, around 32.", &[3, 19], &[31, 33, 26]),
+    ];
+    for (title, data_cuts, text_cuts) in cuts {
+        let pieces = |mut bytes: &[u8], cuts: &[usize]| -> Vec<Vec<u8>> {
+            let mut pieces = Vec::new();
+            for &length in cuts {
+                let (piece, rest) = bytes.split_at(length);
+                pieces.push(piece.to_vec());
+                bytes = rest;
+            }
+            pieces
+        };
+        let mut sealing = vec![begin()];
+        sealing.extend(pieces(&head, data_cuts).iter().map(|piece| data(piece)));
+        let mut checking = sealing.clone();
+        sealing.extend(pieces(&text, text_cuts).iter().map(|piece| seal(piece)));
+        sealing.push(close());
+        lines.session(title, Kind::Sealing, &sealing);
+        checking.extend(
+            pieces(ciphertext, text_cuts)
+                .iter()
+                .map(|piece| check(piece)),
+        );
+        checking.push(give(tag));
+        lines.session(title, Kind::Checking, &checking);
+    }
+
+    lines.session(
+        "Refused calls between those of a message, sealing.",
+        Kind::Sealing,
+        &[
+            data(&head),
+            seal(&text),
+            close(),
+            check(&[]),
+            give(tag),
+            Begin {
+                key: key[1..].to_vec(),
+                nonce: nonce.clone(),
+            },
+            Begin {
+                key: key.clone(),
+                nonce: vec![0; 17],
+            },
+            begin(),
+            begin(),
+            data(&head),
+            data(&super::by_rule(65_537)),
+            data(&super::by_rule(65_515)),
+            check(&text),
+            give(tag),
+            SealText {
+                piece: text.clone(),
+                room: 89,
+            },
+            seal(&text[..40]),
+            data(&[]),
+            SealText {
+                piece: text[40..].to_vec(),
+                room: 0,
+            },
+            SealText {
+                piece: super::by_rule(65_497),
+                room: 0,
+            },
+            SealText {
+                piece: text[40..].to_vec(),
+                room: 80,
+            },
+            begin(),
+            SealClose { room: 0 },
+            SealClose { room: 15 },
+            SealClose { room: 40 },
+            close(),
+            seal(&[]),
+            data(&[]),
+            begin(),
+        ],
+    );
+    lines.session(
+        "Refused calls between those of a message, checking.",
+        Kind::Checking,
+        &[
+            check(ciphertext),
+            give(tag),
+            Begin {
+                key: vec![],
+                nonce: vec![],
+            },
+            begin(),
+            data(&head),
+            seal(&text),
+            close(),
+            check(&ciphertext[..50]),
+            data(&[]),
+            check(&super::by_rule(65_487)),
+            check(&ciphertext[50..]),
+            give(&tag[..15]),
+            give(&sealed),
+            give(tag),
+            give(tag),
+            check(&[]),
+        ],
+    );
+    for bit in [0, 7, 120, 127] {
+        lines.session(
+            "A tag with one bit turned closes.",
+            Kind::Checking,
+            &[
+                begin(),
+                data(&head),
+                check(ciphertext),
+                give(&turned(tag, bit)),
+                give(tag),
+            ],
+        );
+    }
+
+    let most = super::by_rule(65_536);
+    lines.session(
+        "As much data as there may be.",
+        Kind::Sealing,
+        &[
+            begin(),
+            data(&most),
+            data(&[]),
+            data(&[1]),
+            seal(&[1]),
+            close(),
+        ],
+    );
+    lines.session(
+        "As much text as there may be.",
+        Kind::Checking,
+        &[
+            begin(),
+            data(&most[..1_001]),
+            check(&most),
+            check(&[]),
+            check(&[1]),
+            give(tag),
+        ],
+    );
+}
+
+fn writers(lines: &mut Lines) {
+    let mut random = Random::new(6);
+    let key = random.bytes(16);
+    let start = || Start {
+        key: key.clone(),
+        head: HEAD,
+        room: 9,
+    };
+    let add = |ticket| Add { ticket, room: 13 };
+    let finish = || Finish { room: 16 };
+
+    lines.writer("No ticket.", &[start(), finish()]);
+    lines.writer("Document 01's ticket.", &[start(), add(TICKET), finish()]);
+    let mut calls = vec![start(), add(SMALLEST), add(GREATEST)];
+    calls.extend((0..6).map(|_| add(random.ticket())));
+    calls.push(finish());
+    lines.writer("Eight tickets.", &calls);
+
+    let mut calls = vec![
+        add(TICKET),
+        finish(),
+        Start {
+            key: key[1..].to_vec(),
+            head: HEAD,
+            room: 9,
+        },
+        Start {
+            key: vec![],
+            head: broken_heads()[0],
+            room: 0,
+        },
+    ];
+    for head in broken_heads() {
+        let key = key.clone();
+        calls.push(Start { key, head, room: 9 });
+    }
+    calls.push(Start {
+        key: key.clone(),
+        head: broken_heads()[0],
+        room: 0,
+    });
+    calls.push(Start {
+        key: key.clone(),
+        head: HEAD,
+        room: 8,
+    });
+    calls.push(Start {
+        key: key.clone(),
+        head: HEAD,
+        room: 30,
+    });
+    calls.push(start());
+    calls.extend(broken_tickets().into_iter().map(add));
+    calls.push(Add {
+        ticket: broken_tickets()[0],
+        room: 0,
+    });
+    calls.push(Add {
+        ticket: TICKET,
+        room: 12,
+    });
+    calls.push(Add {
+        ticket: TICKET,
+        room: 30,
+    });
+    calls.push(Finish { room: 15 });
+    calls.push(Finish { room: 30 });
+    calls.extend([finish(), add(TICKET), start()]);
+    lines.writer("Refused calls between those of a tape.", &calls);
+}

@@ -1,0 +1,171 @@
+//! Values for the tests, repeatable by their seed.
+
+use haul_tape::{Head, Ticket};
+use std::env;
+use std::time::{SystemTime, UNIX_EPOCH};
+
+/// The environment variable that sets the seed, to run a test again as it was.
+pub const SEED_VARIABLE: &str = "HAUL_TAPE_SEED";
+
+/// A generator: splitmix64.
+pub struct Random(u64);
+
+impl Random {
+    pub fn new(seed: u64) -> Random {
+        Random(seed)
+    }
+
+    /// The generator of a test. Its seed is taken from the environment or else from the clock, and
+    /// printed.
+    pub fn for_test() -> Random {
+        let seed = match env::var(SEED_VARIABLE) {
+            Ok(text) => text.parse().expect("the seed is a number"),
+            Err(_) => SystemTime::now()
+                .duration_since(UNIX_EPOCH)
+                .expect("the clock stands after 1970")
+                .as_nanos() as u64,
+        };
+        println!("{SEED_VARIABLE}={seed}");
+        Random(seed)
+    }
+
+    pub fn word(&mut self) -> u64 {
+        self.0 = self.0.wrapping_add(0x9E37_79B9_7F4A_7C15);
+        let mut z = self.0;
+        z = (z ^ (z >> 30)).wrapping_mul(0xBF58_476D_1CE4_E5B9);
+        z = (z ^ (z >> 27)).wrapping_mul(0x94D0_49BB_1331_11EB);
+        z ^ (z >> 31)
+    }
+
+    /// From 0 to `bound` - 1.
+    pub fn below(&mut self, bound: usize) -> usize {
+        (self.word() % bound as u64) as usize
+    }
+
+    /// From `low` to `high`, both included.
+    pub fn between(&mut self, low: u32, high: u32) -> u32 {
+        low + (self.word() % (u64::from(high - low) + 1)) as u32
+    }
+
+    /// True once in so many times.
+    pub fn once_in(&mut self, times: usize) -> bool {
+        self.below(times) == 0
+    }
+
+    pub fn pick<T: Copy>(&mut self, from: &[T]) -> T {
+        from[self.below(from.len())]
+    }
+
+    pub fn bytes(&mut self, length: usize) -> Vec<u8> {
+        (0..length).map(|_| self.word() as u8).collect()
+    }
+
+    /// 16 bytes, for a key or a nonce.
+    pub fn block(&mut self) -> [u8; 16] {
+        let mut block = [0; 16];
+        block.fill_with(|| self.word() as u8);
+        block
+    }
+
+    /// A valid head.
+    pub fn head(&mut self) -> Head {
+        Head {
+            device: self.between(1, u32::MAX),
+            shift: self.between(1, 1_000_000),
+            sheet: self.between(1, 1_000_000),
+        }
+    }
+
+    /// A valid ticket.
+    pub fn ticket(&mut self) -> Ticket {
+        let tipped = self.between(0, 43_199);
+        let gross = self.between(1, 1_048_575);
+        Ticket {
+            form: 1,
+            truck: self.between(1, 1_023) as u16,
+            shovel: self.between(1, 63) as u8,
+            tip: self.between(1, 63) as u8,
+            grade: self.between(0, 9) as u8,
+            loaded: self.between(0, tipped),
+            tipped,
+            gross,
+            tare: self.between(0, gross - 1),
+        }
+    }
+
+    /// A head with fields at and beyond the ends of their ranges.
+    pub fn edge_head(&mut self) -> Head {
+        let head = self.head();
+        Head {
+            device: self.pick(&[0, 1, head.device, u32::MAX]),
+            shift: self.pick(&EDGES_OF_SHIFT_AND_SHEET),
+            sheet: self.pick(&EDGES_OF_SHIFT_AND_SHEET),
+        }
+    }
+
+    /// A ticket with one or two fields at or beyond the ends of their ranges.
+    pub fn edge_ticket(&mut self) -> Ticket {
+        let mut ticket = self.ticket();
+        for _ in 0..1 + self.below(2) {
+            let t = &mut ticket;
+            match self.below(9) {
+                0 => t.form = self.pick(&[0, 1, 2, 3, 15, 16, 17, 255]),
+                1 => t.truck = self.pick(&[0, 1, 1_023, 1_024, 1_025, 2_047, 65_535]),
+                2 => t.shovel = self.pick(&[0, 1, 63, 64, 65, 127, 255]),
+                3 => t.tip = self.pick(&[0, 1, 63, 64, 65, 127, 255]),
+                4 => t.grade = self.pick(&[0, 9, 10, 15, 16, 25, 255]),
+                5 => {
+                    let more = t.tipped.saturating_add(1);
+                    let pick = [0, t.tipped, more, 43_199, 43_200, 65_536, u32::MAX];
+                    t.loaded = self.pick(&pick);
+                }
+                6 => {
+                    let less = t.loaded.saturating_sub(1);
+                    let around = t.tipped.wrapping_add(65_536);
+                    let pick = [
+                        0,
+                        less,
+                        t.loaded,
+                        around,
+                        43_199,
+                        43_200,
+                        65_535,
+                        65_536,
+                        u32::MAX,
+                    ];
+                    t.tipped = self.pick(&pick);
+                }
+                7 => {
+                    let around = t.gross.wrapping_add(1 << 20);
+                    let pick = [0, 1, t.tare, around, 1_048_575, 1_048_576, u32::MAX];
+                    t.gross = self.pick(&pick);
+                }
+                _ => {
+                    let less = t.gross.saturating_sub(1);
+                    let pick = [0, less, t.gross, 1_048_575, 1_048_576, u32::MAX];
+                    t.tare = self.pick(&pick);
+                }
+            }
+        }
+        ticket
+    }
+}
+
+const EDGES_OF_SHIFT_AND_SHEET: [u32; 9] = [
+    0,
+    1,
+    2,
+    999_999,
+    1_000_000,
+    1_000_001,
+    1_048_576,
+    1_048_577,
+    u32::MAX,
+];
+
+/// The bytes with one bit turned.
+pub fn turned(bytes: &[u8], bit: usize) -> Vec<u8> {
+    let mut bytes = bytes.to_vec();
+    bytes[bit / 8] ^= 1 << (bit % 8);
+    bytes
+}

@@ -1,0 +1,92 @@
+//! Listings.
+
+use haul_tape::{listing, listing_to_string, Head, Ticket};
+use haul_tape_differential::both;
+use haul_tape_differential::calls::write_tape;
+use haul_tape_differential::random::{turned, Random};
+
+#[test]
+fn random_tapes() {
+    let mut random = Random::for_test();
+    for tickets in 0..=40 {
+        let (key, head) = (random.block(), random.head());
+        let tickets: Vec<Ticket> = (0..tickets).map(|_| random.ticket()).collect();
+        let tape = write_tape(&key, head, &tickets);
+        let text = both::listing(&key, &tape);
+        assert!(text.starts_with(b"TAPE "));
+        assert_eq!(listing_to_string(&key, &tape).into_bytes(), text);
+        let mut out = [0; 9];
+        assert_eq!(
+            listing(&key, &tape, &mut out).map_err(|refusal| refusal.number()),
+            Err(6)
+        );
+
+        let bit = random.below(8 * tape.len());
+        both::listing(&key, &turned(&tape, bit));
+        both::listing(&key, &tape[..random.below(tape.len())]);
+    }
+}
+
+/// Small numbers and great ones in every column.
+#[test]
+fn widths_of_numbers() {
+    let mut random = Random::for_test();
+    let smallest = Ticket {
+        form: 1,
+        truck: 1,
+        shovel: 1,
+        tip: 1,
+        grade: 0,
+        loaded: 0,
+        tipped: 0,
+        gross: 1,
+        tare: 0,
+    };
+    let greatest = Ticket {
+        form: 1,
+        truck: 1_023,
+        shovel: 63,
+        tip: 63,
+        grade: 9,
+        loaded: 43_199,
+        tipped: 43_199,
+        gross: 1_048_575,
+        tare: 0,
+    };
+    for number in [1_u32, 9, 10, 99, 100, 999_999, 1_000_000] {
+        let key = random.block();
+        let head = Head {
+            device: 4_294 * number,
+            shift: number,
+            sheet: 1_000_001 - number,
+        };
+        let tape = write_tape(&key, head, &[smallest, greatest, smallest]);
+        both::listing(&key, &tape);
+    }
+}
+
+#[test]
+fn the_longest_tape() {
+    let mut random = Random::for_test();
+    let (key, head) = (random.block(), random.head());
+    let tickets: Vec<Ticket> = (0..5_000).map(|_| random.ticket()).collect();
+    let tape = write_tape(&key, head, &tickets);
+    let text = both::listing(&key, &tape);
+    assert_eq!(text.iter().filter(|&&byte| byte == b'\n').count(), 5_002);
+}
+
+#[test]
+fn refused_tapes() {
+    let mut random = Random::for_test();
+    for _ in 0..200 {
+        let key_bytes = random.pick(&[16, 16, 16, 0, 15, 17]);
+        let key = random.bytes(key_bytes);
+        let length = random.pick(&[0, 24, 25, 26, 37, 38, 51, 65_025, 65_038]);
+        let mut tape = random.bytes(length);
+        if length >= 9 && random.once_in(2) {
+            tape[..9].copy_from_slice(&random.head().pack().unwrap());
+        }
+        let text = both::listing(&key, &tape);
+        assert!(text.starts_with(b"REFUSED "));
+    }
+}

@@ -1,0 +1,269 @@
+//! Tapes: written, opened, read, damaged, cut short, and random bytes in their place.
+
+use haul_tape::{Head, Ticket};
+use haul_tape_differential::both;
+use haul_tape_differential::calls::write_tape;
+use haul_tape_differential::random::{turned, Random};
+use haul_tape_twin::ticket;
+
+struct Tape {
+    key: [u8; 16],
+    tickets: Vec<Ticket>,
+    bytes: Vec<u8>,
+}
+
+fn random_tape(random: &mut Random, tickets: usize) -> Tape {
+    let (key, head) = (random.block(), random.head());
+    let tickets: Vec<Ticket> = (0..tickets).map(|_| random.ticket()).collect();
+    let bytes = write_tape(&key, head, &tickets);
+    Tape {
+        key,
+        tickets,
+        bytes,
+    }
+}
+
+/// Opens the tape, with outputs that are exact, longer, and too short by one; reads its tickets.
+/// Answers the plain bytes.
+fn there_and_back(tape: &Tape) -> Vec<u8> {
+    let Tape {
+        key,
+        tickets,
+        bytes,
+    } = tape;
+    let length = 13 * tickets.len();
+    assert_eq!(bytes.len(), length + 25);
+    let net = tickets.iter().map(|t| u64::from(t.gross - t.tare)).sum();
+    let opened = both::open_tape(key, bytes, length);
+    assert_eq!(opened.answer, Ok((tickets.len() as u64, net)));
+    both::open_tape(key, bytes, length + 25);
+    if length > 0 {
+        let short = both::open_tape(key, bytes, length - 1);
+        assert_eq!(short.answer, Err(6));
+    }
+    assert_eq!(both::read(&opened.out), (tickets.clone(), None));
+
+    let mut out = vec![0; length];
+    let opened_by_wrapper = haul_tape::open_tape(key, bytes, &mut out).unwrap();
+    assert_eq!(opened_by_wrapper.tickets, tickets.len());
+    assert_eq!(opened_by_wrapper.net, net);
+    assert_eq!(out, opened.out);
+    out
+}
+
+#[test]
+fn random_tapes() {
+    let mut random = Random::for_test();
+    for tickets in 0..=40 {
+        for _ in 0..10 {
+            there_and_back(&random_tape(&mut random, tickets));
+        }
+    }
+}
+
+#[test]
+fn the_longest_tape() {
+    let mut random = Random::for_test();
+    let tape = random_tape(&mut random, 5_000);
+    let plain = there_and_back(&tape);
+    assert_eq!(plain.len(), haul_tape::MOST_PLAIN_BYTES);
+    assert_eq!(tape.bytes.len(), haul_tape::MOST_TAPE_BYTES);
+
+    let last = turned(&tape.bytes, 8 * 65_025 - 1);
+    assert_eq!(both::open_tape(&tape.key, &last, 65_000).answer, Err(7));
+    let longer = [tape.bytes, random.bytes(13)].concat();
+    assert_eq!(both::open_tape(&tape.key, &longer, 65_013).answer, Err(2));
+}
+
+/// Tapes around the lengths at which a longer scratch is taken.
+#[test]
+fn around_512_and_8192_bytes() {
+    let mut random = Random::for_test();
+    for tickets in [39, 40, 630, 631] {
+        let tape = random_tape(&mut random, tickets);
+        there_and_back(&tape);
+        let bit = random.below(8 * tape.bytes.len());
+        both::open_tape(&tape.key, &turned(&tape.bytes, bit), 13 * tickets);
+    }
+}
+
+#[test]
+fn every_bit_turned() {
+    let mut random = Random::for_test();
+    for tickets in [0, 1, 3] {
+        let Tape { key, bytes, .. } = random_tape(&mut random, tickets);
+        let room = 13 * tickets + 2;
+        for bit in 0..8 * bytes.len() {
+            let ran = both::open_tape(&key, &turned(&bytes, bit), room);
+            let number = ran.answer.unwrap_err();
+            assert!(number == 7 || number == 3 && bit < 72);
+            assert_eq!(ran.out, both::pattern(room));
+        }
+        for bit in 0..128 {
+            let ran = both::open_tape(&turned(&key, bit), &bytes, room);
+            assert_eq!(ran.answer, Err(7));
+            assert_eq!(ran.out, both::pattern(room));
+        }
+    }
+}
+
+#[test]
+fn wrong_lengths() {
+    let mut random = Random::for_test();
+    let Tape { key, bytes, .. } = random_tape(&mut random, 4);
+    for length in 0..bytes.len() {
+        both::open_tape(&key, &bytes[..length], 80);
+    }
+    for key_bytes in [0, 15, 17, 32] {
+        let key = random.bytes(key_bytes);
+        assert_eq!(both::open_tape(&key, &bytes, 80).answer, Err(2));
+    }
+}
+
+/// Random bytes; half of them begin with a valid head.
+#[test]
+fn random_bytes() {
+    let mut random = Random::for_test();
+    let mut refused = [0; 9];
+    for _ in 0..4_000 {
+        let key = random.block();
+        let length = match random.below(3) {
+            0 => random.below(120),
+            _ => 25 + 13 * random.below(8),
+        };
+        let mut bytes = random.bytes(length);
+        if length >= 9 && random.once_in(2) {
+            bytes[..9].copy_from_slice(&random.head().pack().unwrap());
+        }
+        let room = random.below(120);
+        let number = both::open_tape(&key, &bytes, room).answer.unwrap_err();
+        refused[usize::from(number)] += 1;
+    }
+    println!("refused, by number: {:?}", &refused[1..]);
+    assert!([2, 3, 6, 7].iter().all(|&number| refused[number] > 0));
+}
+
+/// Tapes whose tag is right, with plain bytes that hold a ticket that does not unpack, or a head
+/// that is outside its range.
+#[test]
+fn well_sealed_and_wrong() {
+    let mut random = Random::for_test();
+    let mut refused = [0; 9];
+    for _ in 0..1_500 {
+        let key = random.block();
+        let tickets: Vec<Ticket> = (0..1 + random.below(6)).map(|_| random.ticket()).collect();
+        let mut plain = Vec::new();
+        for ticket in &tickets {
+            plain.extend(ticket.pack().unwrap());
+        }
+        if !random.once_in(4) {
+            plain = turned(&plain, random.below(8 * plain.len()));
+        }
+        let head = match random.below(8) {
+            0 => {
+                let mut head = [0; 9];
+                head.copy_from_slice(&random.bytes(9));
+                head
+            }
+            _ => random.head().pack().unwrap(),
+        };
+        let nonce = haul_tape_twin::tape::nonce_of(&head);
+        let sealed = both::seal(&key, &nonce, &head, &plain, plain.len() + 16);
+        let tape = [&head, &sealed.out[..]].concat();
+
+        let ran = both::open_tape(&key, &tape, plain.len());
+        let reads = both::read(&plain);
+        match ran.answer {
+            Ok((n, _)) => {
+                assert_eq!(ran.out, plain);
+                assert_eq!((reads.0.len() as u64, reads.1), (n, None));
+            }
+            Err(number) => {
+                assert_eq!(ran.out, both::pattern(plain.len()));
+                refused[usize::from(number)] += 1;
+            }
+        }
+    }
+    println!("refused, by number: {:?}", &refused[1..]);
+    assert!([3, 8].iter().all(|&number| refused[number] > 0));
+}
+
+#[test]
+fn the_reader() {
+    let mut random = Random::for_test();
+    let plain = there_and_back(&random_tape(&mut random, 12));
+    for length in 0..=plain.len() {
+        both::read(&plain[..length]);
+    }
+    for bit in 0..8 * plain.len() {
+        both::read(&turned(&plain, bit));
+    }
+    for _ in 0..2_000 {
+        let length = random.below(80);
+        both::read(&random.bytes(length));
+    }
+
+    let ticket = random.ticket().pack().unwrap();
+    for (tickets, end) in [(4_999, None), (5_000, None), (5_001, Some(2))] {
+        assert_eq!(both::read(&ticket.repeat(tickets)).1, end);
+    }
+    assert_eq!(both::read(&vec![0; 65_001]).1, Some(2));
+}
+
+/// Any position, also behind the end.
+#[test]
+fn reading_at_positions() {
+    let mut random = Random::for_test();
+    let mut plain = there_and_back(&random_tape(&mut random, 6));
+    plain[3 * 13] = 0;
+    for position in [
+        0,
+        1,
+        2,
+        3,
+        4,
+        5,
+        6,
+        7,
+        5_000,
+        1 << 32,
+        u64::MAX / 13 + 1,
+        u64::MAX,
+    ] {
+        let library = haul_tape::exports::read_ticket(&plain, position);
+        let place = usize::try_from(position).unwrap();
+        match plain.chunks(13).nth(place).map(ticket::unpack) {
+            Some(Ok(ticket)) => {
+                assert_eq!(both::twin_ticket(library.ticket), ticket);
+                assert_eq!((library.refused, library.at_end), (0, 0));
+                assert_eq!(library.position, position + 1);
+            }
+            Some(Err(number)) => {
+                assert_eq!((library.refused, library.at_end), (number.into(), 0));
+                assert_eq!(library.position, position);
+            }
+            None => {
+                assert_eq!((library.refused, library.at_end), (0, 1));
+                assert_eq!(library.position, position);
+            }
+        }
+        let library = haul_tape::exports::read_ticket(&plain[1..], position);
+        assert_eq!((library.refused, library.at_end), (2, 0));
+        assert_eq!(library.position, position);
+    }
+}
+
+/// The nonce and the data of a tape are its head.
+#[test]
+fn a_tape_is_a_message() {
+    let mut random = Random::for_test();
+    for tickets in [0, 1, 5] {
+        let tape = random_tape(&mut random, tickets);
+        let plain = there_and_back(&tape);
+        let (head, sealed) = tape.bytes.split_first_chunk::<9>().unwrap();
+        assert!(Head::unpack(head).is_ok());
+        let nonce = haul_tape_twin::tape::nonce_of(head);
+        let whole = both::seal(&tape.key, &nonce, head, &plain, sealed.len());
+        assert_eq!(whole.out, sealed);
+    }
+}

@@ -1,0 +1,320 @@
+//! The exports of the C header one by one, with slices in place of pointers and lengths.
+//!
+//! Answers are as in C: `refused` is 0 where the call was done, else the number that sent it back.
+//! Most programs want the types at the root of the crate instead; these calls are there for tests,
+//! and for whoever needs a session whose kind is known only when the program runs.
+//!
+//! All `unsafe` of this crate is in this module. Why its calls are sound: each pointer comes from
+//! a reference or a slice, so it is not null and is valid for the length beside it; an output is
+//! borrowed mutably, so it overlaps nothing else, and inputs, which may overlap one another, are
+//! only read; and the library writes only its outputs and the session or writer, and keeps no
+//! pointer. Any words are some session or writer, so none can be broken.
+
+use crate::{Head, Ticket};
+
+/// The answer of a call that writes.
+#[repr(C)]
+#[derive(Clone, Copy, PartialEq, Eq, Debug)]
+pub struct Written {
+    pub refused: u32,
+    /// Bytes at the start of the output; nothing behind them changes.
+    pub bytes: u64,
+}
+
+/// The answer of a call on a session or writer.
+#[repr(C)]
+#[derive(Clone, Copy, PartialEq, Eq, Debug)]
+pub struct Answer {
+    pub refused: u32,
+    /// Bytes that this call wrote.
+    pub bytes: u64,
+    /// Steps run since the session or writer was fresh.
+    pub steps: u64,
+}
+
+/// The answer of opening a tape.
+#[repr(C)]
+#[derive(Clone, Copy, PartialEq, Eq, Debug)]
+pub struct Opened {
+    pub refused: u32,
+    pub tickets: u64,
+    /// Total net in kilograms.
+    pub net: u64,
+}
+
+/// The answer of unpacking a ticket; zeros in place of the ticket where refused.
+#[repr(C)]
+#[derive(Clone, Copy, PartialEq, Eq, Debug)]
+pub struct UnpackedTicket {
+    pub refused: u32,
+    pub ticket: Ticket,
+}
+
+/// The answer of unpacking a head; zeros in place of the head where refused.
+#[repr(C)]
+#[derive(Clone, Copy, PartialEq, Eq, Debug)]
+pub struct UnpackedHead {
+    pub refused: u32,
+    pub head: Head,
+}
+
+/// The answer of reading at a position.
+#[repr(C)]
+#[derive(Clone, Copy, PartialEq, Eq, Debug)]
+pub struct Reading {
+    pub refused: u32,
+    /// 1 at the end, where there is no ticket; else 0.
+    pub at_end: u32,
+    /// Where the next call goes on.
+    pub position: u64,
+    pub ticket: Ticket,
+}
+
+/// A session of either kind.
+#[repr(C)]
+pub struct Session {
+    words: [u64; 10],
+}
+
+/// A tape's writer.
+#[repr(C)]
+pub struct Writer {
+    words: [u64; 12],
+}
+
+#[rustfmt::skip] // one line each, as in the header
+extern "C" {
+    fn ht_seal(key: *const u8, keylen: usize, nonce: *const u8, noncelen: usize, data: *const u8, datalen: usize,
+        text: *const u8, textlen: usize, out: *mut u8, outlen: usize) -> Written;
+    fn ht_open(key: *const u8, keylen: usize, nonce: *const u8, noncelen: usize, data: *const u8, datalen: usize,
+        sealed: *const u8, sealedlen: usize, out: *mut u8, outlen: usize) -> Written;
+
+    fn ht_session_fresh_sealing(s: *mut Session);
+    fn ht_session_fresh_checking(s: *mut Session);
+    fn ht_session_begin(s: *mut Session, key: *const u8, keylen: usize, nonce: *const u8, noncelen: usize) -> Answer;
+    fn ht_session_data(s: *mut Session, piece: *const u8, piecelen: usize) -> Answer;
+    fn ht_session_seal_text(s: *mut Session, piece: *const u8, piecelen: usize, out: *mut u8, outlen: usize) -> Answer;
+    fn ht_session_seal_close(s: *mut Session, out: *mut u8, outlen: usize) -> Answer;
+    fn ht_session_check_text(s: *mut Session, piece: *const u8, piecelen: usize) -> Answer;
+    fn ht_session_check_close(s: *mut Session, tag: *const u8, taglen: usize) -> Answer;
+
+    fn ht_pack_ticket(ticket: Ticket, out: *mut u8, outlen: usize) -> Written;
+    fn ht_unpack_ticket(packed: *const u8, packedlen: usize) -> UnpackedTicket;
+    fn ht_pack_head(head: Head, out: *mut u8, outlen: usize) -> Written;
+    fn ht_unpack_head(packed: *const u8, packedlen: usize) -> UnpackedHead;
+
+    fn ht_writer_fresh(w: *mut Writer);
+    fn ht_writer_start(w: *mut Writer, key: *const u8, keylen: usize, head: Head, out: *mut u8, outlen: usize) -> Answer;
+    fn ht_writer_add(w: *mut Writer, ticket: Ticket, out: *mut u8, outlen: usize) -> Answer;
+    fn ht_writer_finish(w: *mut Writer, out: *mut u8, outlen: usize) -> Answer;
+    fn ht_open_tape(key: *const u8, keylen: usize, tape: *const u8, tapelen: usize, out: *mut u8, outlen: usize) -> Opened;
+    fn ht_read_ticket(plain: *const u8, plainlen: usize, position: u64) -> Reading;
+    fn ht_list_tape(key: *const u8, keylen: usize, tape: *const u8, tapelen: usize, out: *mut u8, outlen: usize) -> Written;
+}
+
+/// Seals a message: ciphertext and then tag. 2, 5, 6.
+pub fn seal(key: &[u8], nonce: &[u8], data: &[u8], text: &[u8], out: &mut [u8]) -> Written {
+    // SAFETY: see the module's text.
+    unsafe {
+        ht_seal(
+            key.as_ptr(),
+            key.len(),
+            nonce.as_ptr(),
+            nonce.len(),
+            data.as_ptr(),
+            data.len(),
+            text.as_ptr(),
+            text.len(),
+            out.as_mut_ptr(),
+            out.len(),
+        )
+    }
+}
+
+/// Opens what `seal` wrote. 2, 5, 6, 7.
+pub fn open(key: &[u8], nonce: &[u8], data: &[u8], sealed: &[u8], out: &mut [u8]) -> Written {
+    // SAFETY: see the module's text.
+    unsafe {
+        ht_open(
+            key.as_ptr(),
+            key.len(),
+            nonce.as_ptr(),
+            nonce.len(),
+            data.as_ptr(),
+            data.len(),
+            sealed.as_ptr(),
+            sealed.len(),
+            out.as_mut_ptr(),
+            out.len(),
+        )
+    }
+}
+
+impl Session {
+    /// A fresh sealing session.
+    pub fn fresh_sealing() -> Session {
+        let mut session = Session { words: [0; 10] };
+        // SAFETY: see the module's text.
+        unsafe { ht_session_fresh_sealing(&mut session) };
+        session
+    }
+
+    /// A fresh checking session.
+    pub fn fresh_checking() -> Session {
+        let mut session = Session { words: [0; 10] };
+        // SAFETY: see the module's text.
+        unsafe { ht_session_fresh_checking(&mut session) };
+        session
+    }
+
+    /// The session's own words. They may change with the library: tests alone should look.
+    pub fn words(&self) -> &[u64; 10] {
+        &self.words
+    }
+
+    /// 1, 2.
+    pub fn begin(&mut self, key: &[u8], nonce: &[u8]) -> Answer {
+        // SAFETY: see the module's text.
+        unsafe { ht_session_begin(self, key.as_ptr(), key.len(), nonce.as_ptr(), nonce.len()) }
+    }
+
+    /// 1, 5.
+    pub fn data(&mut self, piece: &[u8]) -> Answer {
+        // SAFETY: see the module's text.
+        unsafe { ht_session_data(self, piece.as_ptr(), piece.len()) }
+    }
+
+    /// Writes the ciphertext of the piece. 1, 5, 6.
+    pub fn seal_text(&mut self, piece: &[u8], out: &mut [u8]) -> Answer {
+        // SAFETY: see the module's text.
+        unsafe {
+            ht_session_seal_text(
+                self,
+                piece.as_ptr(),
+                piece.len(),
+                out.as_mut_ptr(),
+                out.len(),
+            )
+        }
+    }
+
+    /// Writes the tag. 1, 6.
+    pub fn seal_close(&mut self, out: &mut [u8]) -> Answer {
+        // SAFETY: see the module's text.
+        unsafe { ht_session_seal_close(self, out.as_mut_ptr(), out.len()) }
+    }
+
+    /// Takes ciphertext. 1, 5.
+    pub fn check_text(&mut self, piece: &[u8]) -> Answer {
+        // SAFETY: see the module's text.
+        unsafe { ht_session_check_text(self, piece.as_ptr(), piece.len()) }
+    }
+
+    /// Compares the tag. 1, 2, and 7, which closes the session, too.
+    pub fn check_close(&mut self, tag: &[u8]) -> Answer {
+        // SAFETY: see the module's text.
+        unsafe { ht_session_check_close(self, tag.as_ptr(), tag.len()) }
+    }
+}
+
+/// 4, 6.
+pub fn pack_ticket(ticket: Ticket, out: &mut [u8]) -> Written {
+    // SAFETY: see the module's text.
+    unsafe { ht_pack_ticket(ticket, out.as_mut_ptr(), out.len()) }
+}
+
+/// 2, 8.
+pub fn unpack_ticket(packed: &[u8]) -> UnpackedTicket {
+    // SAFETY: see the module's text.
+    unsafe { ht_unpack_ticket(packed.as_ptr(), packed.len()) }
+}
+
+/// 3, 6.
+pub fn pack_head(head: Head, out: &mut [u8]) -> Written {
+    // SAFETY: see the module's text.
+    unsafe { ht_pack_head(head, out.as_mut_ptr(), out.len()) }
+}
+
+/// 2, 3.
+pub fn unpack_head(packed: &[u8]) -> UnpackedHead {
+    // SAFETY: see the module's text.
+    unsafe { ht_unpack_head(packed.as_ptr(), packed.len()) }
+}
+
+impl Writer {
+    /// A fresh writer.
+    pub fn fresh() -> Writer {
+        let mut writer = Writer { words: [0; 12] };
+        // SAFETY: see the module's text.
+        unsafe { ht_writer_fresh(&mut writer) };
+        writer
+    }
+
+    /// The writer's own words. They may change with the library: tests alone should look.
+    pub fn words(&self) -> &[u64; 12] {
+        &self.words
+    }
+
+    /// Writes the head. 1, 2, 3, 6.
+    pub fn start(&mut self, key: &[u8], head: Head, out: &mut [u8]) -> Answer {
+        // SAFETY: see the module's text.
+        unsafe {
+            ht_writer_start(
+                self,
+                key.as_ptr(),
+                key.len(),
+                head,
+                out.as_mut_ptr(),
+                out.len(),
+            )
+        }
+    }
+
+    /// Writes the ciphertext of the packed ticket. 1, 4, 5, 6.
+    pub fn add(&mut self, ticket: Ticket, out: &mut [u8]) -> Answer {
+        // SAFETY: see the module's text.
+        unsafe { ht_writer_add(self, ticket, out.as_mut_ptr(), out.len()) }
+    }
+
+    /// Writes the tag. 1, 6.
+    pub fn finish(&mut self, out: &mut [u8]) -> Answer {
+        // SAFETY: see the module's text.
+        unsafe { ht_writer_finish(self, out.as_mut_ptr(), out.len()) }
+    }
+}
+
+/// Opens a tape and writes its plain tickets. 2, 3, 6, 7, 8.
+pub fn open_tape(key: &[u8], tape: &[u8], out: &mut [u8]) -> Opened {
+    // SAFETY: see the module's text.
+    unsafe {
+        ht_open_tape(
+            key.as_ptr(),
+            key.len(),
+            tape.as_ptr(),
+            tape.len(),
+            out.as_mut_ptr(),
+            out.len(),
+        )
+    }
+}
+
+/// The ticket at a position of opened bytes, counted from 0. 2, 8.
+pub fn read_ticket(plain: &[u8], position: u64) -> Reading {
+    // SAFETY: see the module's text.
+    unsafe { ht_read_ticket(plain.as_ptr(), plain.len(), position) }
+}
+
+/// The listing of a tape. 6.
+pub fn list_tape(key: &[u8], tape: &[u8], out: &mut [u8]) -> Written {
+    // SAFETY: see the module's text.
+    unsafe {
+        ht_list_tape(
+            key.as_ptr(),
+            key.len(),
+            tape.as_ptr(),
+            tape.len(),
+            out.as_mut_ptr(),
+            out.len(),
+        )
+    }
+}

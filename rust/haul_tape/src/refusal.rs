@@ -1,0 +1,66 @@
+use std::error::Error;
+use std::fmt;
+
+/// Why a call was sent back.
+///
+/// Where several apply, the one with the smallest number is given. A refused call changes nothing,
+/// neither session nor writer nor output; but [`Refusal::Tag`] closes a [`Checking`] session.
+///
+/// ```
+/// use haul_tape::{Refusal, Ticket};
+///
+/// let refusal = Ticket::unpack(&[0; 12]).unwrap_err();
+/// assert_eq!(refusal, Refusal::Size);
+/// assert_eq!(refusal.number(), 2);
+/// assert_eq!(refusal.to_string(), "a key, nonce, tag, message, tape or ticket has a wrong size (refusal 2)");
+/// ```
+///
+/// [`Checking`]: crate::Checking
+#[derive(Clone, Copy, PartialEq, Eq, Hash, Debug)]
+#[non_exhaustive]
+#[repr(u8)]
+pub enum Refusal {
+    /// 1: the call does not fit the phase.
+    Phase = 1,
+    /// 2: a key, nonce or tag that is not 16 bytes; sealed bytes under 16; a tape that is not
+    /// 25 + 13n bytes, or tickets' bytes that are not 13n, with n at most 5,000; a packed ticket
+    /// that is not 13 bytes, a packed head that is not 9.
+    Size = 2,
+    /// 3: a head field outside its range.
+    Head = 3,
+    /// 4: a ticket to be written breaks a rule.
+    Ticket = 4,
+    /// 5: more than 65,536 bytes of data, or of text; a 5,001st ticket.
+    Limit = 5,
+    /// 6: the output is too short.
+    Output = 6,
+    /// 7: the tag differs.
+    Tag = 7,
+    /// 8: a ticket does not unpack.
+    Unpack = 8,
+}
+
+impl Refusal {
+    /// The refusal's number, 1 to 8.
+    pub fn number(self) -> u8 {
+        self as u8
+    }
+}
+
+impl fmt::Display for Refusal {
+    fn fmt(&self, f: &mut fmt::Formatter<'_>) -> fmt::Result {
+        let reason = match self {
+            Refusal::Phase => "the call does not fit the phase",
+            Refusal::Size => "a key, nonce, tag, message, tape or ticket has a wrong size",
+            Refusal::Head => "a head field is outside its range",
+            Refusal::Ticket => "a ticket to be written breaks a rule",
+            Refusal::Limit => "there is too much data or text, or a ticket too many",
+            Refusal::Output => "the output is too short",
+            Refusal::Tag => "the tag differs",
+            Refusal::Unpack => "a ticket does not unpack",
+        };
+        write!(f, "{reason} (refusal {})", self.number())
+    }
+}
+
+impl Error for Refusal {}

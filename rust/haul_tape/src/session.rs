@@ -1,0 +1,149 @@
+use crate::{exports, Refusal};
+use std::fmt;
+
+/// What an accepted call on a session or writer did.
+#[derive(Clone, Copy, PartialEq, Eq, Debug)]
+pub struct Done {
+    /// The bytes that this call wrote, at the start of its output.
+    pub bytes: usize,
+    /// The steps of the cipher run since the session or writer was fresh.
+    pub steps: u64,
+}
+
+/// Seals a message in pieces: [`begin`], [`data`] any number of times, [`text`] any number of
+/// times, [`close`].
+///
+/// Wherever the pieces are cut, the bytes written are those of [`message::seal`].
+///
+/// ```
+/// use haul_tape::{message, Sealing};
+///
+/// let (key, nonce) = ([1; 16], [2; 16]);
+/// let mut sealed = [0; 6 + 16];
+/// let mut session = Sealing::new();
+/// session.begin(&key, &nonce)?;
+/// session.data(b"shift ")?;
+/// session.data(b"2")?;
+/// session.text(b"face", &mut sealed)?;
+/// session.text(b" 4", &mut sealed[4..])?;
+/// let done = session.close(&mut sealed[6..])?;
+/// assert_eq!((done.bytes, done.steps), (16, 3_072 + 8 * (7 + 6)));
+///
+/// let whole = message::seal_to_vec(&key, &nonce, b"shift 2", b"face 4")?;
+/// assert_eq!(sealed[..], whole);
+/// # Ok::<(), haul_tape::Refusal>(())
+/// ```
+///
+/// [`begin`]: Sealing::begin
+/// [`data`]: Sealing::data
+/// [`text`]: Sealing::text
+/// [`close`]: Sealing::close
+/// [`message::seal`]: crate::message::seal
+pub struct Sealing(exports::Session);
+
+impl Sealing {
+    /// A fresh session.
+    pub fn new() -> Sealing {
+        Sealing(exports::Session::fresh_sealing())
+    }
+
+    /// Takes key and nonce, 16 bytes each. They must serve one message only.
+    pub fn begin(&mut self, key: &[u8], nonce: &[u8]) -> Result<Done, Refusal> {
+        self.0.begin(key, nonce).into_result()
+    }
+
+    /// Takes a piece of data.
+    pub fn data(&mut self, piece: &[u8]) -> Result<Done, Refusal> {
+        self.0.data(piece).into_result()
+    }
+
+    /// Takes a piece of text and writes its ciphertext. Ends the data, even with an empty piece.
+    pub fn text(&mut self, piece: &[u8], out: &mut [u8]) -> Result<Done, Refusal> {
+        self.0.seal_text(piece, out).into_result()
+    }
+
+    /// Ends the message and writes the 16 bytes of its tag.
+    pub fn close(&mut self, out: &mut [u8]) -> Result<Done, Refusal> {
+        self.0.seal_close(out).into_result()
+    }
+}
+
+/// Checks the tag of a message in pieces, and gives no text: [`begin`], [`data`] any number of
+/// times, [`text`] with ciphertext any number of times, [`close`] with the tag.
+///
+/// ```
+/// use haul_tape::{message, Checking, Refusal};
+///
+/// let (key, nonce) = ([1; 16], [2; 16]);
+/// let sealed = message::seal_to_vec(&key, &nonce, b"shift 2", b"face 4")?;
+/// let check = |tag: &[u8]| {
+///     let mut session = Checking::new();
+///     session.begin(&key, &nonce)?;
+///     session.data(b"shift 2")?;
+///     session.text(&sealed[..6])?;
+///     session.close(tag)
+/// };
+/// assert!(check(&sealed[6..]).is_ok());
+/// assert_eq!(check(&[0; 16]), Err(Refusal::Tag));
+/// # Ok::<(), Refusal>(())
+/// ```
+///
+/// [`begin`]: Checking::begin
+/// [`data`]: Checking::data
+/// [`text`]: Checking::text
+/// [`close`]: Checking::close
+pub struct Checking(exports::Session);
+
+impl Checking {
+    /// A fresh session.
+    pub fn new() -> Checking {
+        Checking(exports::Session::fresh_checking())
+    }
+
+    /// Takes key and nonce, 16 bytes each.
+    pub fn begin(&mut self, key: &[u8], nonce: &[u8]) -> Result<Done, Refusal> {
+        self.0.begin(key, nonce).into_result()
+    }
+
+    /// Takes a piece of data.
+    pub fn data(&mut self, piece: &[u8]) -> Result<Done, Refusal> {
+        self.0.data(piece).into_result()
+    }
+
+    /// Takes a piece of ciphertext. Ends the data, even with an empty piece.
+    pub fn text(&mut self, piece: &[u8]) -> Result<Done, Refusal> {
+        self.0.check_text(piece).into_result()
+    }
+
+    /// Ends the message and compares its tag with the given one. A wrong tag closes the session,
+    /// too.
+    pub fn close(&mut self, tag: &[u8]) -> Result<Done, Refusal> {
+        self.0.check_close(tag).into_result()
+    }
+}
+
+impl Default for Sealing {
+    fn default() -> Sealing {
+        Sealing::new()
+    }
+}
+
+impl Default for Checking {
+    fn default() -> Checking {
+        Checking::new()
+    }
+}
+
+// What a session holds is secret, so it is not shown.
+
+impl fmt::Debug for Sealing {
+    fn fmt(&self, f: &mut fmt::Formatter<'_>) -> fmt::Result {
+        f.debug_struct("Sealing").finish_non_exhaustive()
+    }
+}
+
+impl fmt::Debug for Checking {
+    fn fmt(&self, f: &mut fmt::Formatter<'_>) -> fmt::Result {
+        f.debug_struct("Checking").finish_non_exhaustive()
+    }
+}

@@ -1,0 +1,102 @@
+use crate::{exports, Refusal, HEAD_BYTES, TICKET_BYTES};
+
+/// One haul.
+///
+/// A ticket is only data: its rule is checked where it is packed or written on a tape, and holds
+/// of every ticket that was unpacked or read.
+///
+/// ```
+/// use haul_tape::{Refusal, Ticket};
+///
+/// let ticket = Ticket {
+///     form: 1,
+///     truck: 5,
+///     shovel: 2,
+///     tip: 3,
+///     grade: 4,
+///     loaded: 3_600,
+///     tipped: 4_200,
+///     gross: 250_000,
+///     tare: 110_000,
+/// };
+/// let packed = ticket.pack()?;
+/// assert_eq!(packed[..4], [0x10, 0x14, 0x20, 0xD0]);
+/// assert_eq!(Ticket::unpack(&packed)?, ticket);
+///
+/// let empty = Ticket { tare: 250_000, ..ticket };
+/// assert_eq!(empty.pack(), Err(Refusal::Ticket));
+/// # Ok::<(), Refusal>(())
+/// ```
+#[repr(C)]
+#[derive(Clone, Copy, PartialEq, Eq, Hash, Debug)]
+pub struct Ticket {
+    /// 1.
+    pub form: u8,
+    /// 1 to 1,023.
+    pub truck: u16,
+    /// 1 to 63.
+    pub shovel: u8,
+    /// The tip point, 1 to 63.
+    pub tip: u8,
+    /// 0 to 9.
+    pub grade: u8,
+    /// Second of the shift, at most `tipped`.
+    pub loaded: u32,
+    /// Second of the shift, 0 to 43,199.
+    pub tipped: u32,
+    /// Kilograms, at most 1,048,575.
+    pub gross: u32,
+    /// Kilograms, below `gross`.
+    pub tare: u32,
+}
+
+impl Ticket {
+    /// The ticket's 13 bytes.
+    pub fn pack(&self) -> Result<[u8; TICKET_BYTES], Refusal> {
+        let mut packed = [0; TICKET_BYTES];
+        exports::pack_ticket(*self, &mut packed).into_result()?;
+        Ok(packed)
+    }
+
+    /// The ticket with these 13 bytes.
+    pub fn unpack(packed: &[u8]) -> Result<Ticket, Refusal> {
+        exports::unpack_ticket(packed).into_result()
+    }
+}
+
+/// What stands at the start of a tape.
+///
+/// ```
+/// use haul_tape::{Head, Refusal};
+///
+/// let head = Head { device: 7, shift: 2, sheet: 1 };
+/// let packed = head.pack()?;
+/// assert_eq!(packed, [0, 0, 0, 7, 0, 0, 0x20, 0, 1]);
+/// assert_eq!(Head::unpack(&packed)?, head);
+/// assert_eq!(Head { device: 0, ..head }.pack(), Err(Refusal::Head));
+/// # Ok::<(), Refusal>(())
+/// ```
+#[repr(C)]
+#[derive(Clone, Copy, PartialEq, Eq, Hash, Debug)]
+pub struct Head {
+    /// 1 or more.
+    pub device: u32,
+    /// 1 to 1,000,000.
+    pub shift: u32,
+    /// 1 to 1,000,000.
+    pub sheet: u32,
+}
+
+impl Head {
+    /// The head's 9 bytes.
+    pub fn pack(&self) -> Result<[u8; HEAD_BYTES], Refusal> {
+        let mut packed = [0; HEAD_BYTES];
+        exports::pack_head(*self, &mut packed).into_result()?;
+        Ok(packed)
+    }
+
+    /// The head with these 9 bytes.
+    pub fn unpack(packed: &[u8]) -> Result<Head, Refusal> {
+        exports::unpack_head(packed).into_result()
+    }
+}

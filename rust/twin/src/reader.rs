@@ -1,0 +1,112 @@
+//! The reader over opened bytes (document 01, "Ticket, head, tape").
+
+use crate::number;
+use crate::tape::tickets_in;
+use crate::ticket::{self, Ticket, TICKET_BYTES};
+
+/// What a reader answers.
+#[derive(Clone, Copy, PartialEq, Eq, Debug)]
+pub enum Next {
+    Ticket(Ticket),
+    End,
+    Refused(u8),
+}
+
+/// Hands out the tickets of opened bytes in turn. It may be made over any bytes.
+#[derive(Clone, PartialEq, Eq, Debug)]
+pub struct Reader<'a> {
+    bytes: &'a [u8],
+    position: usize,
+}
+
+impl<'a> Reader<'a> {
+    /// A reader before the first ticket.
+    pub fn new(bytes: &'a [u8]) -> Reader<'a> {
+        Reader { bytes, position: 0 }
+    }
+
+    /// Tickets handed out.
+    pub fn position(&self) -> u64 {
+        self.position as u64
+    }
+
+    /// The next ticket, or the end. Where the bytes are not 13n with n at most 5,000 the answer is
+    /// always 2; before a ticket that does not unpack it is 8, and the reader stays there.
+    #[allow(clippy::should_implement_trait)]
+    pub fn next(&mut self) -> Next {
+        let Some(n) = tickets_in(self.bytes.len()) else {
+            return Next::Refused(number::LENGTH);
+        };
+        if self.position == n {
+            return Next::End;
+        }
+        let from = TICKET_BYTES * self.position;
+        match ticket::unpack(&self.bytes[from..from + TICKET_BYTES]) {
+            Ok(ticket) => {
+                self.position += 1;
+                Next::Ticket(ticket)
+            }
+            Err(number) => Next::Refused(number),
+        }
+    }
+}
+
+#[cfg(test)]
+mod tests {
+    use super::*;
+
+    const GOOD: [u8; 13] = [
+        0x10, 0x14, 0x20, 0xD0, 0x38, 0x40, 0x41, 0xA0, 0xF4, 0x24, 0x06, 0xB6, 0xC0,
+    ];
+
+    #[test]
+    fn no_tickets() {
+        let mut reader = Reader::new(&[]);
+        assert_eq!(reader.next(), Next::End);
+        assert_eq!(reader.next(), Next::End);
+        assert_eq!(reader.position(), 0);
+    }
+
+    #[test]
+    fn in_turn_and_then_the_end() {
+        let bytes = GOOD.repeat(3);
+        let ticket = ticket::unpack(&GOOD).unwrap();
+        let mut reader = Reader::new(&bytes);
+        for handed_out in 1..=3 {
+            assert_eq!(reader.next(), Next::Ticket(ticket));
+            assert_eq!(reader.position(), handed_out);
+        }
+        assert_eq!(reader.next(), Next::End);
+        assert_eq!(reader.next(), Next::End);
+        assert_eq!(reader.position(), 3);
+    }
+
+    #[test]
+    fn wrong_lengths() {
+        let bytes = GOOD.repeat(5_002);
+        for length in [1, 12, 14, 25, 64_999, 65_001, 65_013, 65_026] {
+            let mut reader = Reader::new(&bytes[..length]);
+            for _ in 0..3 {
+                assert_eq!(reader.next(), Next::Refused(2));
+                assert_eq!(reader.position(), 0);
+            }
+        }
+        let mut reader = Reader::new(&bytes[..65_000]);
+        for _ in 0..5_000 {
+            assert!(matches!(reader.next(), Next::Ticket(_)));
+        }
+        assert_eq!(reader.next(), Next::End);
+    }
+
+    #[test]
+    fn stays_before_a_ticket_that_does_not_unpack() {
+        let mut bytes = GOOD.repeat(3);
+        bytes[25] = 0xC1;
+        let mut reader = Reader::new(&bytes);
+        assert!(matches!(reader.next(), Next::Ticket(_)));
+        for _ in 0..3 {
+            assert_eq!(reader.next(), Next::Refused(8));
+            assert_eq!(reader.position(), 1);
+        }
+    }
+}
