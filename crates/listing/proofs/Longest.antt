@@ -16,10 +16,10 @@ use Rattle.tape_model.specs.Ticket.{form1, ticketLength, ticketOf, ordered, val
 use Rattle.tape_model.specs.Tape.{ticketLimit, unpackTickets, isRefused, ticketsIn, totalNet, headBytes, ticketCount, plainBytes, openRefusal}
 use Rattle.tape_model.specs.Listing.{space, lineEnd, wordTape, wordTotal, wordRefused, decimalBelow, decimal, numbers, headLine, ticketLine, ticketLines, totalLine, refusedLine, listed, listingUnless, listing}
 use Rattle.tape_model.proofs.Ranges.{in-ranges}
+use Rattle.tape_model.proofs.Opening.{size, tickets-good}
 use Rattle.tape_model.proofs.Listing.{decimal-length}
 use Rattle.listing.specs.Contracts.{textRoom}
-use Rattle.listing.proofs.TicketLines.{taken-apart, unpacked-count, told}
-use Rattle.listing.proofs.Opened.{size, tickets-good}
+use Rattle.tape_model.proofs.Unpacking.{taken-apart, unpacked-count, told}
 
 -- ## Numbers
 

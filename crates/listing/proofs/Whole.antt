@@ -10,7 +10,7 @@ use Rattle.tape_model.specs.declared.Head.{Head}
 use Rattle.tape_model.specs.Tape.{unpackTickets, ticketsIn}
 use Rattle.tape_model.specs.Listing.{lineEnd, wordTotal, numbers, headLine, totalLine, listed}
 use Rattle.listing.specs.Contracts.{PlainTickets, unpacked, linesOf, totalsLine}
-use Rattle.listing.proofs.TicketLines.{told, unpacked-count}
+use Rattle.tape_model.proofs.Unpacking.{unpacked-count, told}
 
 module _ (head : Head) (plain out : List ℕ) (net : ℕ) (p : PlainTickets plain net) (room : length (listed (done head) (ticketsIn (unpacked plain))) ≤ length out) where
   abbrev tickets : List Ticket

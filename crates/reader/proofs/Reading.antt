@@ -1,5 +1,5 @@
 -- What comes of reading: from the contracts to document 01's reader, and from there ticket by ticket.
-use mathlib.Core.Path.{_≡_, refl, sym, ap, _∙_, subst}
+use mathlib.Core.Path.{_≡_, refl, sym, ap, ap₂, _∙_, subst}
 use mathlib.Core.Bool.{Bool, true, false, not}
 use mathlib.Core.List.{List, [], _∷_, _++_}
 use Prim.Native.Nat.{ℕ, zero, suc, _+_, _*_, _/_, _≤_}
@@ -13,12 +13,15 @@ use Rattle.acorn_model.specs.Calls.{Reply, refused, done, writtenOver}
 use Rattle.tape_model.specs.declared.Ticket.{Ticket}
 use Rattle.tape_model.specs.declared.NextTicket.{NextTicket}
 use Rattle.tape_model.specs.declared.NextTicket.the-variants.{Refused, Done, End}
+use Rattle.tape_model.specs.declared.OpenedTape.the-variants.{Done as TapeDone}
 use Rattle.tape_model.specs.Ticket.{unpackTicket}
-use Rattle.tape_model.specs.Tape.{packTickets, ticketsLength, ticketThen, isRefused, unpackTickets}
+use Rattle.tape_model.specs.Tape.{packTickets, ticketsLength, ticketThen, isRefused, unpackTickets, ticketsIn, totalNet, Totals, ticketCount, plainBytes, openTape, openedReply}
 use Rattle.tape_model.specs.Reader as model
 use Rattle.tape_model.specs.Reader.{Reading, ticket, atEnd, ReadOutcome, stays, handedOut, readerOver, readNext, nextReply}
 use Rattle.tape_model.specs.Laws.{readings, readerAfter}
 use Rattle.tape_model.proofs.Tapes.{tickets-length, tickets-unpack, length-allowed, tapes-come-back}
+use Rattle.tape_model.proofs.Unpacking.{unpacked-count, told}
+use Rattle.tape_model.proofs.Opening.{tickets-good, plain-length, was-accepted, count-is, net-is, few-tickets, front}
 use Rattle.reader.specs.declared.Reader.{Reader}
 use Rattle.reader.specs.declared.Handed.{Handed}
 use Rattle.reader.specs.Contracts.{readerAt, readerOf, outcomeOf, NextCalled}
@@ -165,6 +168,24 @@ module _ (bytes : RefT (List ℕ)) where
       let sized : ticketsLength (length s) ≡ true = ap ticketsLength size ∙ length-allowed (length ts) few in
       begins ts (done atEnd) sized (omega arith) u (sym (no-more s (length ts) true (sym sized) refl (omega arith)))
 
+  opened : (key tape out after : List ℕ) (n net : ℕ) → openTape key tape out ≡ record { answer = openedReply (TapeDone n net); out = after } → s ≡ take (13 * n) after
+      → (ts : List Ticket) × (length ts ≡ n) × (totalNet ts ≡ net) × HandsOut bytes ts (done atEnd)
+  unfolding openedReply
+  opened key tape out after n net e here =
+      let k : Totals = record { tickets = n; net = net } in
+      let good = was-accepted key tape out k after e in
+      let plain : s ≡ plainBytes key tape = here ∙ front key tape out k after e in
+      let u = told (unpackTickets (ticketCount tape) (plainBytes key tape)) (tickets-good key tape out good) in
+      let ts = ticketsIn (unpackTickets (ticketCount tape) (plainBytes key tape)) in
+      let c = unpacked-count (ticketCount tape) (plainBytes key tape) ts u in
+      let count = count-is key tape out k after e in (
+        ts,
+        omega (arith, c, count),
+        sym (net-is key tape out k after e),
+        whole ts (ap length plain ∙ plain-length key tape out good ∙ ap (λ (m : ℕ). 13 * m) (sym c)) (omega (arith, c, count, few-tickets key tape out k after e))
+            (ap₂ unpackTickets c plain ∙ u),
+      )
+
   laws : ReadingLaws bytes
   unfolding writtenOver
   laws =
@@ -178,6 +199,7 @@ module _ (bytes : RefT (List ℕ)) where
             λ i. (sym opened ∙ tapes-come-back key head ts k h v n .opens out room) i .out in
             let plain : s ≡ packTickets ts = e ∙ ap (take (13 * length ts)) left ∙ take-at (packTickets ts) _ _ (tickets-length ts) in
             whole ts (ap length plain ∙ tickets-length ts) n (ap (unpackTickets (length ts)) plain ∙ tickets-unpack ts v);
+        opened = opened;
         wrong-size = λ wrong. hands-out [] (refused 2) (sym (wrong-size s 0 false (sym wrong) refl));
         bad-ticket = λ ts sized here u bad.
             let x = number (unpackTicket (take 13 (drop (13 * length ts) s))) bad in

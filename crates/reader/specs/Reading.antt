@@ -11,8 +11,9 @@ use Rattle.acorn_model.specs.Machine.{keyLength}
 use Rattle.tape_model.specs.declared.Ticket.{Ticket}
 use Rattle.tape_model.specs.declared.Head.{Head}
 use Rattle.tape_model.specs.declared.OpenedTape.{OpenedTape}
+use Rattle.tape_model.specs.declared.OpenedTape.the-variants.{Done}
 use Rattle.tape_model.specs.Ticket.{ticketLength, unpackTicket, headRule}
-use Rattle.tape_model.specs.Tape.{ticketLimit, tapeOf, ticketsLength, isRefused, unpackTickets, openTape, openedReply}
+use Rattle.tape_model.specs.Tape.{ticketLimit, tapeOf, ticketsLength, isRefused, unpackTickets, totalNet, openTape, openedReply}
 use Rattle.tape_model.specs.Reader.{Reading, ticket, atEnd, readerOver, nextReply}
 use Rattle.tape_model.specs.Laws.{Valid, readings, readerAfter}
 use Rattle.reader.specs.declared.Reader.{Reader}
@@ -63,6 +64,10 @@ pub record ReadingLaws (bytes : RefT (List ℕ)) : Type 0 where
       → (out after : List ℕ) (o : OpenedTape) → ticketLength * length tickets ≤ length out
       → openTape key (tapeOf key head tickets) out ≡ record { answer = openedReply o; out = after }
       → now bytes ≡ take (ticketLength * length tickets) after → HandsOut bytes tickets (done atEnd)
+  -- over the bytes that any opening wrote: as many tickets as it answered, of the total net that it answered, and then the end
+  pub opened : (key tape out after : List ℕ) (n net : ℕ) → openTape key tape out ≡ record { answer = openedReply (Done n net); out = after }
+      → now bytes ≡ take (ticketLength * n) after
+      → (tickets : List Ticket) × (length tickets ≡ n) × (totalNet tickets ≡ net) × HandsOut bytes tickets (done atEnd)
   -- over bytes of a wrong size: 2
   pub wrong-size : ticketsLength (length (now bytes)) ≡ false → HandsOut bytes [] (refused 2)
   -- over bytes in which a ticket behind others does not unpack: these, and then 8

@@ -2,38 +2,19 @@
 use mathlib.Core.Path.{_≡_, refl, sym, ap, _∙_}
 use mathlib.Core.Bool.{Bool, true, false, not, _&&_}
 use mathlib.Core.List.{List}
-use Prim.Native.Nat.{ℕ, zero, suc, _-_, _*_, _/_, _%_, _≤_}
+use Prim.Native.Nat.{ℕ, zero, suc, _-_, _*_, _≤_}
 use native.Mathlib.Omega.{arith}
-use lib.Dec.{eqb, leb, ltb}
+use lib.Dec.{eqb, ltb}
 use lib.ListN.{length}
-use borrow.Author.Tests.{eqb-true, leb-true, ltb-false, not-false}
+use borrow.Author.Tests.{ltb-false}
 use Rattle.acorn_model.specs.Bits.{_if_else_}
 use Rattle.acorn_model.specs.Calls.{refused, unlessRefused}
 use Rattle.acorn_model.specs.Machine.{keyLength}
 use Rattle.acorn_model.specs.Message.{resultOf, tagMatches}
-use Rattle.acorn_model.proofs.Choices.{both}
 use Rattle.tape_model.specs.Ticket.{ticketLength, unpackHead}
-use Rattle.tape_model.specs.Tape.{ticketLimit, nonceOf, ticketsLength, unpackTickets, isRefused, emptyTapeLength, tapeLength, headBytes, sealedBytes, ticketCount, plainBytes, openRefusal, openTape}
+use Rattle.tape_model.specs.Tape.{nonceOf, unpackTickets, isRefused, emptyTapeLength, tapeLength, headBytes, sealedBytes, ticketCount, plainBytes, openRefusal, openTape}
+use Rattle.tape_model.proofs.Opening.{TapeSize, sizes-told, text-length}
 use Rattle.tape.specs.Contracts.{textRefusal}
-
--- ## A tape's length
-
-pub record TapeSize (n : ℕ) : Type 0 where
-  pub long : emptyTapeLength ≤ n
-  pub whole : (n - emptyTapeLength) % ticketLength ≡ 0
-  pub few : (n - emptyTapeLength) / ticketLength ≤ ticketLimit
-
-pub sizes-told : (key : List ℕ) (n : ℕ) (sized : Bool) → sized ≡ tapeLength n → not (eqb (length key) keyLength && sized) ≡ false → (length key ≡ keyLength) × TapeSize n
-unfolding tapeLength ticketsLength
-sizes-told key n sized s e =
-    let a = both (eqb (length key) keyLength) sized (not-false _ e) in
-    let l = both (leb emptyTapeLength n) _ (sym s ∙ a .1) in
-    let t = both (eqb ((n - emptyTapeLength) % ticketLength) 0) _ (l .1) in
-    (eqb-true _ _ (a .0), record { long = leb-true _ _ (l .0); whole = eqb-true _ _ (t .0); few = leb-true _ _ (t .1) })
-
--- 13 bytes for each ticket are all the text
-pub text-length : (n : ℕ) → TapeSize n → ticketLength * ((n - emptyTapeLength) / ticketLength) ≡ n - emptyTapeLength
-text-length n s = omega (arith, s .whole)
 
 -- ## The numbers
 

@@ -5,4 +5,6 @@ pub mod Inverses
 pub mod Tickets
 pub mod Tapes
 pub mod Cases
+pub mod Unpacking
+pub mod Opening
 pub mod Listing

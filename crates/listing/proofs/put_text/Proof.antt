@@ -8,8 +8,9 @@ use borrow.Author.Needs.{needs}
 use Rattle.tape_model.specs.declared.OpenedTape.{OpenedTape}
 use Rattle.tape_model.specs.Ticket.{ticketLength, headLength}
 use Rattle.tape_model.specs.Tape.{openedReply}
+use Rattle.tape_model.proofs.Opening.{size, was-accepted, few-tickets}
 use Rattle.listing.proofs.Texts.{wrote-as}
-use Rattle.listing.proofs.Opened.{refused-listing, opened-size, few-tickets, opened-tickets, opened-listing}
+use Rattle.listing.proofs.Opened.{refused-listing, opened-tickets, opened-listing}
 use Rattle.listing.proofs.Longest.{longest}
 use Rattle.listing.proofs.put_text.Statement.{statement}
 use Rattle.listing.proofs.put_text.Tie as tie
@@ -31,14 +32,14 @@ mul-n : tie.Need-mul-n
 unfolding openedReply
 mul-n c =
     let s = c .before .before .before .before .before .before .before .before .before .before .before in
-    let few = few-tickets (s .args .key .now) (s .args .tape .now) (s .args .plain .now) _ _ (s .pre .0) (c .before .before .before .before .before .open-tape .ensures ∙ ap (λ (r : OpenedTape). record { answer = openedReply r; out = c .before .before .before .before .before .open-tape .last .1 .1 .0 }) (c .before .tickets .given .1)) in
+    let few = few-tickets (s .args .key .now) (s .args .tape .now) (s .args .plain .now) _ _ (c .before .before .before .before .before .open-tape .ensures ∙ ap (λ (r : OpenedTape). record { answer = openedReply r; out = c .before .before .before .before .before .open-tape .last .1 .1 .0 }) (c .before .tickets .given .1)) in
     search needs
 
 slice-aggregate-unpack-head : tie.Need-slice-aggregate-unpack-head
 unfolding openedReply
 slice-aggregate-unpack-head c =
     let s = c .before .before .before .before .before .before .before .before .before .before .before .before in
-    sym (length-take-le headLength (s .args .tape .now) (omega (arith, opened-size (s .args .key .now) (s .args .tape .now) (s .args .plain .now) _ _ (s .pre .0) (c .before .before .before .before .before .before .open-tape .ensures ∙ ap (λ (r : OpenedTape). record { answer = openedReply r; out = c .before .before .before .before .before .before .open-tape .last .1 .1 .0 }) (c .before .before .tickets .given .1)) .long)))
+    sym (length-take-le headLength (s .args .tape .now) (omega (arith, size (s .args .key .now) (s .args .tape .now) (s .args .plain .now) (was-accepted (s .args .key .now) (s .args .tape .now) (s .args .plain .now) _ _ (c .before .before .before .before .before .before .open-tape .ensures ∙ ap (λ (r : OpenedTape). record { answer = openedReply r; out = c .before .before .before .before .before .before .open-tape .last .1 .1 .0 }) (c .before .before .tickets .given .1))) .long)))
 
 unpack-head-requires : tie.Need-unpack-head-requires
 unpack-head-requires c κs = search needs
@@ -47,14 +48,14 @@ slice-reshare-prefix-put-opened : tie.Need-slice-reshare-prefix-put-opened
 unfolding openedReply
 slice-reshare-prefix-put-opened c =
     let s = c .before .before .before .before .before .before .before .before .before .before .before .before .before in
-    let few = few-tickets (s .args .key .now) (s .args .tape .now) (s .args .plain .now) _ _ (s .pre .0) (c .before .before .before .before .before .before .before .open-tape .ensures ∙ ap (λ (r : OpenedTape). record { answer = openedReply r; out = c .before .before .before .before .before .before .before .open-tape .last .1 .1 .0 }) (c .before .before .before .tickets .given .1)) in
+    let few = few-tickets (s .args .key .now) (s .args .tape .now) (s .args .plain .now) _ _ (c .before .before .before .before .before .before .before .open-tape .ensures ∙ ap (λ (r : OpenedTape). record { answer = openedReply r; out = c .before .before .before .before .before .before .before .open-tape .last .1 .1 .0 }) (c .before .before .before .tickets .given .1)) in
     omega (arith, few, c .before .before .before .before .before .before .before .open-tape .kept .1 .1 .0, s .pre .0)
 
 slice-aggregate-put-opened : tie.Need-slice-aggregate-put-opened
 unfolding openedReply
 slice-aggregate-put-opened c =
     let s = c .before .before .before .before .before .before .before .before .before .before .before .before .before .before in
-    let few = few-tickets (s .args .key .now) (s .args .tape .now) (s .args .plain .now) _ _ (s .pre .0) (c .before .before .before .before .before .before .before .before .open-tape .ensures ∙ ap (λ (r : OpenedTape). record { answer = openedReply r; out = c .before .before .before .before .before .before .before .before .open-tape .last .1 .1 .0 }) (c .before .before .before .before .tickets .given .1)) in
+    let few = few-tickets (s .args .key .now) (s .args .tape .now) (s .args .plain .now) _ _ (c .before .before .before .before .before .before .before .before .open-tape .ensures ∙ ap (λ (r : OpenedTape). record { answer = openedReply r; out = c .before .before .before .before .before .before .before .before .open-tape .last .1 .1 .0 }) (c .before .before .before .before .tickets .given .1)) in
     sym (length-take-le (ticketLength * c .before .before .before .before .tickets .given .0 .0) _ (omega (arith, few, c .before .before .before .before .before .before .before .before .open-tape .kept .1 .1 .0, s .pre .0)))
 
 put-opened-requires : tie.Need-put-opened-requires

@@ -2,7 +2,8 @@
 use native.Mathlib.Omega.{arith}
 use lib.ListN.{length}
 use Rattle.tape_model.specs.Tape.{openedReply}
-use Rattle.tape.proofs.Sizes.{sent-back, let-through, openable, text-length}
+use Rattle.tape_model.proofs.Opening.{text-length}
+use Rattle.tape.proofs.Sizes.{sent-back, let-through, openable}
 use borrow.Author.Needs.{needs}
 use Rattle.tape.proofs.open_tape.Statement.{statement}
 use Rattle.tape.proofs.open_tape.Tie as tie

@@ -9,7 +9,7 @@ use Rattle.acorn_model.specs.Calls.{unlessRefused}
 use Rattle.tape_model.specs.Ticket.{headLength, ticketLength}
 use Rattle.tape_model.specs.Tape.{ticketCount, openRefusal}
 use Rattle.tape.specs.Contracts.{textRefusal}
-use Rattle.tape.proofs.Sizes.{TapeSize, sizes-told, text-length}
+use Rattle.tape_model.proofs.Opening.{TapeSize, sizes-told, text-length}
 use borrow.Author.Needs.{needs}
 use Rattle.tape.proofs.opening.open_refusal.Statement.{statement}
 use Rattle.tape.proofs.opening.open_refusal.Tie as tie
