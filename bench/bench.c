@@ -1,23 +1,20 @@
-/* Times the library beside the C peer, both in one run: the best of several rounds each, and their ratio. */
+/* Times the library beside the C peer, both in one run: the best of several rounds each, and their ratio. What C calls is timed through the
+ * interface for C; the loops over short pieces are programs of their own, compiled with the library, and timed as a whole. */
+#include <fcntl.h>
+#include <spawn.h>
 #include <stddef.h>
 #include <stdint.h>
 #include <stdio.h>
+#include <stdlib.h>
 #include <string.h>
+#include <sys/wait.h>
 #include <time.h>
 #include "acorn_opt.h"
+#include "haul_tape.h"
 
-size_t bench_seal(const uint8_t *key, size_t keylen, const uint8_t *nonce, size_t noncelen, const uint8_t *data, size_t datalen,
-    const uint8_t *text, size_t textlen, uint8_t *out, size_t outlen);
-size_t bench_open(const uint8_t *key, size_t keylen, const uint8_t *nonce, size_t noncelen, const uint8_t *data, size_t datalen,
-    const uint8_t *sealed, size_t sealedlen, uint8_t *out, size_t outlen);
-uint64_t bench_check(const uint8_t *key, size_t keylen, const uint8_t *nonce, size_t noncelen, const uint8_t *text, size_t textlen,
-    const uint8_t *tag, size_t taglen);
-uint64_t bench_pieces(const uint8_t *key, size_t keylen, const uint8_t *nonce, size_t noncelen, const uint8_t *text, size_t textlen,
-    size_t each, uint8_t *out, size_t outlen, uint8_t *tag, size_t taglen);
-uint64_t bench_write_tape(const uint8_t *key, size_t keylen, uint32_t tickets, uint8_t *out, size_t outlen);
-uint64_t bench_open_tape(const uint8_t *key, size_t keylen, const uint8_t *tape, size_t tapelen, uint8_t *out, size_t outlen);
+extern char **environ;
 
-enum { MOST = 65536, TAG = 16, ROUNDS = 21 };
+enum { MOST = 65536, TAG = 16, TICKETS = 5000, ROUNDS = 21, RUNS = 400 /* in each of the programs */ };
 static uint8_t key[16], nonce[16], text[MOST], ours[MOST + TAG], theirs[MOST + TAG], plain[MOST + TAG], tag[TAG];
 
 static double now(void)
@@ -47,6 +44,15 @@ static void row(const char *what, size_t n, double here, double c)
     printf("%-28s %6zu %12.0f %12.0f %8.3f\n", what, n, here * 1e9, c * 1e9, here / c);
 }
 
+static void check(size_t n)
+{
+    ht_session s;
+    ht_session_fresh_checking(&s);
+    ht_session_begin(&s, key, 16, nonce, 16);
+    ht_session_check_text(&s, theirs, n);
+    ht_session_check_close(&s, theirs + n, TAG);
+}
+
 static void peer_pieces(size_t n, size_t each)
 {
     acorn_state s;
@@ -58,6 +64,48 @@ static void peer_pieces(size_t n, size_t each)
     opt_final(&s, tag);
 }
 
+/* The best time of a run within a program, beside that of the peer's pieces; both in turn, so that neither has the quieter machine. */
+static void program(const char *what, char *path)
+{
+    double best = 1e9, peer = 1e9;
+    posix_spawn_file_actions_t silent;
+    posix_spawn_file_actions_init(&silent);
+    posix_spawn_file_actions_addopen(&silent, 1, "/dev/null", O_WRONLY, 0);
+    for (int r = 0; r < ROUNDS; r++) {
+        char *argv[] = { path, NULL };
+        pid_t child;
+        int status;
+        double t = now();
+        if (posix_spawn(&child, path, &silent, NULL, argv, environ) != 0 || waitpid(child, &status, 0) < 0 || status != 0) {
+            fprintf(stderr, "cannot run %s\n", path);
+            exit(1);
+        }
+        t = (now() - t) / RUNS;
+        best = t < best ? t : best;
+        t = now();
+        for (int c = 0; c < RUNS; c++)
+            peer_pieces(13 * TICKETS, 13);
+        t = (now() - t) / RUNS;
+        peer = t < peer ? t : peer;
+    }
+    posix_spawn_file_actions_destroy(&silent);
+    row(what, 13 * TICKETS, best, peer);
+}
+
+static void write_tape(void)
+{
+    ht_head head = { 7, 2, 1 };
+    ht_ticket ticket = { 1, 5, 2, 3, 4, 0, 0, 250000, 110000 };
+    ht_writer w;
+    ht_writer_fresh(&w);
+    ht_writer_start(&w, key, 16, head, ours, sizeof ours);
+    for (uint32_t i = 0; i < TICKETS; i++) {
+        ticket.loaded = ticket.tipped = i;
+        ht_writer_add(&w, ticket, ours + 9 + 13 * i, 13);
+    }
+    ht_writer_finish(&w, ours + 9 + 13 * TICKETS, TAG);
+}
+
 int main(void)
 {
     unsigned long long len;
@@ -65,7 +113,7 @@ int main(void)
         text[i] = (uint8_t)(i * 167 + (i >> 8));
     for (int i = 0; i < 16; i++)
         key[i] = (uint8_t)(i * 3 + 1), nonce[i] = (uint8_t)(i * 5 + 2);
-    bench_seal(key, 16, nonce, 16, text, 100, text, MOST, ours, sizeof ours);
+    ht_seal(key, 16, nonce, 16, text, 100, text, MOST, ours, sizeof ours);
     opt_crypto_aead_encrypt(theirs, &len, text, MOST, text, 100, 0, nonce, key);
     if (memcmp(ours, theirs, sizeof ours) != 0) {
         puts("library and peer differ");
@@ -78,26 +126,26 @@ int main(void)
         int calls = n < 2048 ? 400 : (int)(400 * 2048 / n);
         double a, b;
         TIMED(b, calls, opt_crypto_aead_encrypt(theirs, &len, text, n, text, 0, 0, nonce, key));
-        TIMED(a, calls, bench_seal(key, 16, nonce, 16, text, 0, text, n, ours, sizeof ours));
+        TIMED(a, calls, ht_seal(key, 16, nonce, 16, text, 0, text, n, ours, sizeof ours));
         row("seal", n, a, b);
         TIMED(b, calls, opt_crypto_aead_decrypt(plain, &len, 0, theirs, n + TAG, text, 0, nonce, key));
-        TIMED(a, calls, bench_open(key, 16, nonce, 16, text, 0, theirs, n + TAG, plain, sizeof plain));
+        TIMED(a, calls, ht_open(key, 16, nonce, 16, text, 0, theirs, n + TAG, plain, sizeof plain));
         row("open", n, a, b);
-        TIMED(a, calls, bench_check(key, 16, nonce, 16, theirs, n, theirs + n, TAG));
+        TIMED(a, calls, check(n));
         row("check (peer: open)", n, a, b);
         TIMED(b, calls, opt_crypto_aead_encrypt(theirs, &len, text, 0, text, n, 0, nonce, key));
-        TIMED(a, calls, bench_seal(key, 16, nonce, 16, text, n, text, 0, ours, sizeof ours));
+        TIMED(a, calls, ht_seal(key, 16, nonce, 16, text, n, text, 0, ours, sizeof ours));
         row("seal, as data", n, a, b);
     }
+    program("5,000 pieces of 13 bytes", "target/bin/bench_pieces");
+    program("tape of 5,000 adds", "target/bin/bench_tape");
     double a, b;
-    TIMED(b, 10, peer_pieces(65000, 13));
-    TIMED(a, 10, bench_pieces(key, 16, nonce, 16, text, 65000, 13, ours, sizeof ours, tag, TAG));
-    row("5,000 pieces of 13 bytes", 65000, a, b);
-    TIMED(a, 10, bench_write_tape(key, 16, 5000, ours, sizeof ours));
-    row("tape of 5,000 adds", 65000, a, b);
-    opt_crypto_aead_encrypt(theirs, &len, text, 65000, text, 9, 0, nonce, key);
-    TIMED(b, 10, opt_crypto_aead_decrypt(plain, &len, 0, theirs, 65000 + TAG, text, 9, nonce, key));
-    TIMED(a, 10, bench_open_tape(key, 16, ours, 65025, plain, sizeof plain));
-    row("open that tape", 65000, a, b);
+    TIMED(b, 10, peer_pieces(13 * TICKETS, 13));
+    TIMED(a, 10, write_tape());
+    row("the same, called from C", 13 * TICKETS, a, b);
+    opt_crypto_aead_encrypt(theirs, &len, text, 13 * TICKETS, text, 9, 0, nonce, key);
+    TIMED(b, 10, opt_crypto_aead_decrypt(plain, &len, 0, theirs, 13 * TICKETS + TAG, text, 9, nonce, key));
+    TIMED(a, 10, ht_open_tape(key, 16, ours, 25 + 13 * TICKETS, plain, sizeof plain));
+    row("open that tape", 13 * TICKETS, a, b);
     return 0;
 }
