@@ -26,7 +26,7 @@ module _ (calls : List WriterCall) where
   writerLogFrom = writerLog (entries writerCall freshWriter calls)
 
 -- every call of a list is accepted
-abbrev pub AllAccepted : List (Entry Call) → Type 0
+abbrev pub AllAccepted : {C : Type 0} → List (Entry C) → Type 0
 AllAccepted [] = Unit {0}
 AllAccepted (e ∷ es) = ((w : Work) × (e .answer ≡ done w)) × AllAccepted es
 

@@ -16,7 +16,8 @@ use Rattle.call_lists.proofs.Refusals.{WriterPassed}
 use Rattle.call_lists.proofs.WriterReached.{WriterReached, fresh-writer-reached}
 use Rattle.call_lists.proofs.WriterAccepts.{machine-passed, comesTo, accepted-work}
 use Rattle.call_lists.proofs.WriterKept.{writer-kept}
-use Rattle.demands.specs.Examples.{AllAccepted, Answers, SomeWriter, someHead, writerCalls, refusedWriterCalls, WriterExamples}
+use Rattle.call_lists.specs.WriterLists.{AllAccepted}
+use Rattle.demands.specs.Examples.{Answers, SomeWriter, someHead, writerCalls, refusedWriterCalls, WriterExamples}
 use Rattle.demands.proofs.Writers.{writer-demand}
 use Rattle.demands.proofs.Exist.{writers-exist}
 use Rattle.demands.proofs.AllPass.{AllPass, all-same}

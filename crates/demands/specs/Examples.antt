@@ -21,6 +21,7 @@ use Rattle.tape_model.specs.Ticket.{ticketLength, headLength, packHead}
 use Rattle.tape_model.specs.Tape.{nonceOf, openTape}
 use Rattle.tape_model.specs.Writer.{PlainWriter, WriterCall, start, add, finish}
 use Rattle.tape_model.specs.Cases.{ticketWith}
+use Rattle.call_lists.specs.WriterLists.{AllAccepted}
 use Rattle.session.specs.declared.Session.{Session}
 use Rattle.session.specs.declared.Reply.{Reply as SessionReply}
 use Rattle.session.specs.Contracts.{machineOf, Called}
@@ -52,12 +53,7 @@ WritersExist = (cs : List WriterCall) → (es : List (Entry WriterCall)) × (e :
 abbrev pub SomeSession : Kind → List Call → (List (Entry Call) → Machine → Type 0) → Type 0
 SomeSession kind cs P = (es : List (Entry Call)) × (e : Session) × SessionList kind es e × (callsOf es ≡ cs) × P es (machineOf e)
 
--- every call of a list is accepted
-abbrev pub AllAccepted : {C : Type 0} → List (Entry C) → Type 0
-AllAccepted [] = Unit {0}
-AllAccepted (e ∷ es) = ((w : Work) × (e .answer ≡ done w)) × AllAccepted es
-
--- and the last ends their session
+-- every call of a list is accepted, and the last ends their session
 abbrev pub Finish : List (Entry Call) → Machine → Type 0
 Finish es m = AllAccepted es × Ended m
 
