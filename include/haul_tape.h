@@ -2,8 +2,13 @@
  * memset and no more.
  *
  * Nothing here allocates or keeps anything: sessions and writers are structs of words that the caller places, and every
- * buffer comes with its length. No call reads or writes beyond the lengths given. An output must not overlap anything else that
- * the call is given, and a pointer must not be null, not even with length 0.
+ * buffer comes with its length. No call reads or writes beyond the lengths given. An output, session or writer must not overlap
+ * anything else that the call is given (so nothing is sealed in place), and a pointer must not be null, not even with length 0.
+ * There is no global state: calls on different structs and buffers may run at the same time.
+ *
+ * Secrets: the words of a session or writer that is not closed are as secret as its key; a close, and finish, put zeros in their
+ * place. ht_open, ht_open_tape and ht_list_tape leave decrypted text on the stack, a refused one (7, 8) too: who must not leave it
+ * there clears the stack below.
  *
  * A key and nonce must serve one message only, and a key and head one tape only: the caller sees to that.
  *
@@ -68,14 +73,16 @@ ht_written ht_open(const uint8_t *key, size_t keylen, const uint8_t *nonce, size
 
 /* ---- sessions: a message in pieces ---- */
 
-/* A session. Its words are its own: set it by one of the two calls below, and copy it only to go on from one of the copies. Any
- * ten words are some session: none make a call unsafe. */
+/* A session. Its words are its own: set it by one of the two calls below. Two copies that both go on would use one keystream
+ * twice: go on from one copy only. The words are not for storing, nor for another version of the library. Any ten words are some
+ * session: none make a call unsafe. */
 typedef struct { uint64_t words[10]; } ht_session;
 
 void ht_session_fresh_sealing(ht_session *s);
 void ht_session_fresh_checking(ht_session *s);
 
-/* begin, then data any number of times, then text any number of times, then close. An empty text ends the data, too. */
+/* begin, then data any number of times, then text any number of times, then close; data or text may be left out. An empty text
+ * ends the data, too. After a close, and after 7, every call is 1, until the session is set fresh again. */
 ht_answer ht_session_begin(ht_session *s, const uint8_t *key, size_t keylen, const uint8_t *nonce, size_t noncelen); /* 1, 2 */
 ht_answer ht_session_data(ht_session *s, const uint8_t *piece, size_t piecelen);                                     /* 1, 5 */
 
@@ -118,7 +125,7 @@ ht_unpacked_head ht_unpack_head(const uint8_t *packed, size_t packedlen);       
 /* ---- tapes ---- */
 
 /* A tape's writer: start, add for each ticket, finish. Each writes its part of the tape at the start of its output: 9 bytes, 13
- * bytes, 16 bytes. */
+ * bytes, 16 bytes. What is said of a session's words holds of a writer's. A tape that is given up after start has used up its head. */
 typedef struct { uint64_t words[12]; } ht_writer;
 
 void ht_writer_fresh(ht_writer *w);

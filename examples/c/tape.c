@@ -3,16 +3,21 @@
  *     rt staticlib haul_tape
  *     gcc -std=c11 -Wall -Wextra -Iinclude examples/c/tape.c target/staticlib/libhaul_tape.a -o target/tape && target/tape
  *
- * It prints what it read, and ends with 1 where anything is not as it should be.
+ * It uses every call of the header, prints what it read, and ends with 1 where anything is not as it should be.
  */
 #include "haul_tape.h"
 
 #include <inttypes.h>
+#include <stddef.h>
 #include <stdio.h>
 #include <stdlib.h>
 #include <string.h>
 
 static const uint8_t key[HT_KEY_BYTES] = {1, 2, 3, 4, 5, 6, 7, 8, 9, 10, 11, 12, 13, 14, 15, 16};
+
+_Static_assert(sizeof(ht_ticket) == 24 && offsetof(ht_ticket, truck) == 2 && offsetof(ht_ticket, tip) == 5 && offsetof(ht_ticket, loaded) == 8, "layout");
+_Static_assert(sizeof(ht_head) == 12 && sizeof(ht_answer) == 24 && sizeof(ht_written) == 16 && sizeof(ht_opened) == 24, "layout");
+_Static_assert(sizeof(ht_reading) == 40 && sizeof(ht_unpacked_ticket) == 28 && sizeof(ht_unpacked_head) == 16, "layout");
 
 static void must(int holds, const char *what)
 {
@@ -90,6 +95,28 @@ static void read_tape(uint8_t *tape, size_t tapelen, ht_head head, const ht_tick
     printf("%" PRIu64 " tickets, net %" PRIu64 " kg\n", o.tickets, o.net);
 }
 
+/* Document 01's ticket and head pack to the bytes that it gives, and are listed as it says. */
+static void known_answers(void)
+{
+    static const uint8_t ticket_bytes[HT_TICKET_BYTES] = {0x10, 0x14, 0x20, 0xd0, 0x38, 0x40, 0x41, 0xa0, 0xf4, 0x24, 0x06, 0xb6, 0xc0};
+    static const uint8_t head_bytes[HT_HEAD_BYTES] = {0, 0, 0, 7, 0, 0, 0x20, 0, 1};
+    static const char listing[] = "TAPE 7 2 1\n1 5 2 3 4 3600 4200 140000\nTOTAL 1 140000\n";
+    const ht_ticket ticket = {.form = 1, .truck = 5, .shovel = 2, .tip = 3, .grade = 4,
+        .loaded = 3600, .tipped = 4200, .gross = 250000, .tare = 110000};
+    const ht_head head = {.device = 7, .shift = 2, .sheet = 1};
+    uint8_t packed[HT_TICKET_BYTES], tape[HT_HEAD_BYTES + HT_TICKET_BYTES + HT_TAG_BYTES];
+    static uint8_t text[HT_MOST_LISTING_BYTES];
+
+    must(ht_pack_ticket(ticket, packed, sizeof packed).refused == 0, "the ticket does not pack");
+    must(memcmp(packed, ticket_bytes, sizeof ticket_bytes) == 0, "the ticket packs to other bytes");
+    must(ht_pack_head(head, packed, sizeof packed).refused == 0, "the head does not pack");
+    must(memcmp(packed, head_bytes, sizeof head_bytes) == 0, "the head packs to other bytes");
+    size_t n = write_tape(head, &ticket, 1, tape, sizeof tape);
+    ht_written w = ht_list_tape(key, sizeof key, tape, n, text, sizeof text);
+    must(w.refused == 0 && w.bytes == sizeof listing - 1, "the listing has another length");
+    must(memcmp(text, listing, sizeof listing - 1) == 0, "the listing differs");
+}
+
 /* A message in pieces, and at once: the same bytes. */
 static void message(void)
 {
@@ -139,6 +166,7 @@ int main(void)
     must(ht_pack_head(head, packed, sizeof packed).bytes == HT_HEAD_BYTES, "the head does not pack");
     must(memcmp(packed, tape, sizeof packed) == 0, "the tape begins otherwise");
     read_tape(tape, n, head, tickets, 2);
+    known_answers();
     message();
     return 0;
 }

@@ -69,7 +69,7 @@ pub(crate) fn done(answer: Answer) -> Result<Done, u8> {
         });
     }
     assert_eq!((answer.bytes, answer.steps), (0, 0), "beside a refusal");
-    Err(answer.refused as u8)
+    Err(u8::try_from(answer.refused).expect("a number of document 01"))
 }
 
 fn written(written: Written) -> Result<usize, u8> {
@@ -77,7 +77,7 @@ fn written(written: Written) -> Result<usize, u8> {
         return Ok(written.bytes as usize);
     }
     assert_eq!(written.bytes, 0, "beside a refusal");
-    Err(written.refused as u8)
+    Err(u8::try_from(written.refused).expect("a number of document 01"))
 }
 
 /// The ticket in the twin's form.
@@ -221,7 +221,7 @@ pub fn open_tape(key: &[u8], tape: &[u8], room: usize) -> Ran<(u64, u64)> {
                 return Ok((opened.tickets, opened.net));
             }
             assert_eq!((opened.tickets, opened.net), (0, 0), "beside a refusal");
-            Err(opened.refused as u8)
+            Err(u8::try_from(opened.refused).expect("a number of document 01"))
         },
         |out| tape::open_tape(key, tape, out),
     )
@@ -278,8 +278,14 @@ pub fn read(plain: &[u8]) -> (Vec<Ticket>, Option<u8>) {
     };
     let last = twin.position();
     for _ in 0..3 {
-        twin.next();
-        assert_eq!(twin.position(), last);
+        let library = exports::read_ticket(plain, last);
+        let (refused, at_end) = match twin.next() {
+            Next::Ticket(_) => panic!("a ticket behind the last"),
+            Next::End => (0, 1),
+            Next::Refused(number) => (u32::from(number), 0),
+        };
+        assert_eq!((library.refused, library.at_end), (refused, at_end));
+        assert_eq!((library.position, twin.position()), (last, last));
     }
 
     let mut items: Vec<_> = tickets.iter().copied().map(Ok).collect();

@@ -168,6 +168,7 @@ impl Session {
     }
 
     /// The session's own words. They may change with the library: tests alone should look.
+    #[doc(hidden)]
     pub fn words(&self) -> &[u64; 10] {
         &self.words
     }
@@ -251,6 +252,7 @@ impl Writer {
     }
 
     /// The writer's own words. They may change with the library: tests alone should look.
+    #[doc(hidden)]
     pub fn words(&self) -> &[u64; 12] {
         &self.words
     }

@@ -1,4 +1,4 @@
-//! The proved haul tape library, for Rust: ACORN-128 version 3, haul tickets and shift tapes.
+//! Safe calls on the proved haul tape library: ACORN-128 version 3, haul tickets and shift tapes.
 //!
 //! A [`Writer`] seals a shift's [`Ticket`]s behind a [`Head`] as a tape; [`open_tape`] opens it, a
 //! [`Reader`] hands out its tickets, and [`listing`] prints them. [`message`] seals and opens byte
