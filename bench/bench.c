@@ -24,19 +24,26 @@ static double now(void)
     return (double)t.tv_sec + 1e-9 * (double)t.tv_nsec;
 }
 
-/* The best time of one call, over rounds of so many calls. */
-#define TIMED(best, calls, call)                     \
-    do {                                             \
-        double b_ = 1e9;                             \
-        for (int r_ = 0; r_ < ROUNDS; r_++) {        \
-            double t_ = now();                       \
-            for (int c_ = 0; c_ < (calls); c_++)     \
-                call;                                \
-            t_ = (now() - t_) / (calls);             \
-            if (t_ < b_)                             \
-                b_ = t_;                             \
-        }                                            \
-        best = b_;                                   \
+/* The time of one call, over so many calls. */
+#define TIMED(time, calls, call)                 \
+    do {                                         \
+        double t_ = now();                       \
+        for (int c_ = 0; c_ < (calls); c_++)     \
+            call;                                \
+        time = (now() - t_) / (calls);           \
+    } while (0)
+
+/* A row: the best time of each over several rounds. Both take turns, so that neither has the quieter machine. */
+#define ROW(what, n, calls, here, peer)          \
+    do {                                         \
+        double a_ = 1e9, b_ = 1e9, x_;           \
+        for (int r_ = 0; r_ < ROUNDS; r_++) {    \
+            TIMED(x_, calls, peer);              \
+            b_ = x_ < b_ ? x_ : b_;              \
+            TIMED(x_, calls, here);              \
+            a_ = x_ < a_ ? x_ : a_;              \
+        }                                        \
+        row(what, n, a_, b_);                    \
     } while (0)
 
 static void row(const char *what, size_t n, double here, double c)
@@ -64,32 +71,39 @@ static void peer_pieces(size_t n, size_t each)
     opt_final(&s, tag);
 }
 
-/* The best time of a run within a program, beside that of the peer's pieces; both in turn, so that neither has the quieter machine. */
-static void program(const char *what, char *path)
+/* Runs a program, whose rounds are so many runs. */
+static void run(char *path)
 {
-    double best = 1e9, peer = 1e9;
+    char *argv[] = { path, NULL };
     posix_spawn_file_actions_t silent;
+    pid_t child;
+    int status;
     posix_spawn_file_actions_init(&silent);
     posix_spawn_file_actions_addopen(&silent, 1, "/dev/null", O_WRONLY, 0);
-    for (int r = 0; r < ROUNDS; r++) {
-        char *argv[] = { path, NULL };
-        pid_t child;
-        int status;
-        double t = now();
-        if (posix_spawn(&child, path, &silent, NULL, argv, environ) != 0 || waitpid(child, &status, 0) < 0 || status != 0) {
-            fprintf(stderr, "cannot run %s\n", path);
-            exit(1);
-        }
-        t = (now() - t) / RUNS;
-        best = t < best ? t : best;
-        t = now();
-        for (int c = 0; c < RUNS; c++)
-            peer_pieces(13 * TICKETS, 13);
-        t = (now() - t) / RUNS;
-        peer = t < peer ? t : peer;
+    if (posix_spawn(&child, path, &silent, NULL, argv, environ) != 0 || waitpid(child, &status, 0) < 0 || status != 0) {
+        fprintf(stderr, "cannot run %s\n", path);
+        exit(1);
     }
     posix_spawn_file_actions_destroy(&silent);
-    row(what, 13 * TICKETS, best, peer);
+}
+
+static void peer_runs(void)
+{
+    for (int c = 0; c < RUNS; c++)
+        peer_pieces(13 * TICKETS, 13);
+}
+
+/* The same of a program: the time of one of its runs. */
+static void program(const char *what, char *path)
+{
+    double a = 1e9, b = 1e9, x;
+    for (int r = 0; r < ROUNDS; r++) {
+        TIMED(x, 1, peer_runs());
+        b = x < b ? x : b;
+        TIMED(x, 1, run(path));
+        a = x < a ? x : a;
+    }
+    row(what, 13 * TICKETS, a / RUNS, b / RUNS);
 }
 
 static void write_tape(void)
@@ -124,28 +138,19 @@ int main(void)
     for (size_t i = 0; i < sizeof sizes / sizeof sizes[0]; i++) {
         size_t n = sizes[i];
         int calls = n < 2048 ? 400 : (int)(400 * 2048 / n);
-        double a, b;
-        TIMED(b, calls, opt_crypto_aead_encrypt(theirs, &len, text, n, text, 0, 0, nonce, key));
-        TIMED(a, calls, ht_seal(key, 16, nonce, 16, text, 0, text, n, ours, sizeof ours));
-        row("seal", n, a, b);
-        TIMED(b, calls, opt_crypto_aead_decrypt(plain, &len, 0, theirs, n + TAG, text, 0, nonce, key));
-        TIMED(a, calls, ht_open(key, 16, nonce, 16, text, 0, theirs, n + TAG, plain, sizeof plain));
-        row("open", n, a, b);
-        TIMED(a, calls, check(n));
-        row("check (peer: open)", n, a, b);
-        TIMED(b, calls, opt_crypto_aead_encrypt(theirs, &len, text, 0, text, n, 0, nonce, key));
-        TIMED(a, calls, ht_seal(key, 16, nonce, 16, text, n, text, 0, ours, sizeof ours));
-        row("seal, as data", n, a, b);
+        ROW("seal", n, calls, ht_seal(key, 16, nonce, 16, text, 0, text, n, ours, sizeof ours),
+            opt_crypto_aead_encrypt(theirs, &len, text, n, text, 0, 0, nonce, key));
+        ROW("open", n, calls, ht_open(key, 16, nonce, 16, text, 0, theirs, n + TAG, plain, sizeof plain),
+            opt_crypto_aead_decrypt(plain, &len, 0, theirs, n + TAG, text, 0, nonce, key));
+        ROW("check (peer: open)", n, calls, check(n), opt_crypto_aead_decrypt(plain, &len, 0, theirs, n + TAG, text, 0, nonce, key));
+        ROW("seal, as data", n, calls, ht_seal(key, 16, nonce, 16, text, n, text, 0, ours, sizeof ours),
+            opt_crypto_aead_encrypt(theirs, &len, text, 0, text, n, 0, nonce, key));
     }
     program("5,000 pieces of 13 bytes", "target/bin/bench_pieces");
     program("tape of 5,000 adds", "target/bin/bench_tape");
-    double a, b;
-    TIMED(b, 10, peer_pieces(13 * TICKETS, 13));
-    TIMED(a, 10, write_tape());
-    row("the same, called from C", 13 * TICKETS, a, b);
+    ROW("the same, called from C", 13 * TICKETS, 10, write_tape(), peer_pieces(13 * TICKETS, 13));
     opt_crypto_aead_encrypt(theirs, &len, text, 13 * TICKETS, text, 9, 0, nonce, key);
-    TIMED(b, 10, opt_crypto_aead_decrypt(plain, &len, 0, theirs, 13 * TICKETS + TAG, text, 9, nonce, key));
-    TIMED(a, 10, ht_open_tape(key, 16, ours, 25 + 13 * TICKETS, plain, sizeof plain));
-    row("open that tape", 13 * TICKETS, a, b);
+    ROW("open that tape", 13 * TICKETS, 10, ht_open_tape(key, 16, ours, 25 + 13 * TICKETS, plain, sizeof plain),
+        opt_crypto_aead_decrypt(plain, &len, 0, theirs, 13 * TICKETS + TAG, text, 9, nonce, key));
     return 0;
 }
