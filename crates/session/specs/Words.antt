@@ -1,15 +1,16 @@
 -- A session in ten words, for callers that cannot hold the struct. Any ten words stand for a session.
 use mathlib.Core.Bool.{_||_}
 use mathlib.Core.List.{List, [], _∷_}
-use Prim.Native.Nat.{ℕ}
+use Prim.Native.Nat.{ℕ, _+_, _*_, _^_}
 use lib.Dec.{eqb, ltb}
 use lib.ListN.{getD}
 use Rattle.acorn_model.specs.declared.Kind.{Kind}
 use Rattle.acorn_model.specs.declared.Kind.the-variants.{Sealing, Checking}
 use Rattle.acorn_model.specs.declared.Phase.{Phase}
 use Rattle.acorn_model.specs.declared.Phase.the-variants.{Fresh, Data, Text, Closed}
-use Rattle.acorn_model.specs.Bits.{_if_else_}
+use Rattle.acorn_model.specs.Bits.{Bits, _if_else_, number}
 use Rattle.acorn_model.specs.Machine.{Machine}
+use Rattle.acorn.specs.declared.State.{State}
 use Rattle.session.specs.declared.Session.{Session}
 use Rattle.session.specs.Contracts.{machineOf}
 
@@ -73,3 +74,32 @@ sessionIn words =
 -- the machine that ten words stand for
 unfoldable pub machineIn : List ℕ → Machine
 machineIn words = machineOf (sessionIn words)
+
+-- ## The words of a machine
+
+-- 293 bits in six words: each word's own bits are its highest, and below them are zeros
+unfoldable pub stateFor : Bits → State
+stateFor S =
+    record {
+      w0 = number 61 (λ j. S (0 + j)) * 2 ^ 3;
+      w1 = number 46 (λ j. S (61 + j)) * 2 ^ 18;
+      w2 = number 47 (λ j. S (107 + j)) * 2 ^ 17;
+      w3 = number 39 (λ j. S (154 + j)) * 2 ^ 25;
+      w4 = number 37 (λ j. S (193 + j)) * 2 ^ 27;
+      w5 = number 63 (λ j. S (230 + j)) * 2 ^ 1;
+    }
+
+unfoldable pub sessionFor : Machine → Session
+sessionFor m =
+    record {
+      state = stateFor (m .state);
+      «data_bytes» = m .counts .dataBytes;
+      «text_bytes» = m .counts .textBytes;
+      steps = m .counts .steps;
+      kind = m .kind;
+      phase = m .phase;
+    }
+
+-- the ten words that are stored for a machine
+unfoldable pub wordsFor : Machine → List ℕ
+wordsFor m = wordsOf (sessionFor m)

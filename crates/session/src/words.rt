@@ -4,7 +4,8 @@ use acorn::State;
 use acorn_model::Kind;
 use acorn_model::Phase;
 ghost use mathlib.Core.Path.{_≡_};
-ghost use Rattle.session.specs.Words.{numberOf, kindIn, phaseIn, wordsOf, sessionIn};
+ghost use Rattle.session.specs.Contracts.{machineOf};
+ghost use Rattle.session.specs.Words.{numberOf, kindIn, phaseIn, sessionIn, wordsFor};
 
 // Kind and phase in one number.
 fn number(kind: Kind, phase: Phase) -> u64
@@ -69,20 +70,20 @@ impl Session {
         }
     }
 
-    // The words of a session.
+    // The words of a session. What stands below a word's own bits is left out, so that the words follow from the machine.
     pub fn words(self) -> [u64; 10]
-        ensures { λ r. ⌜ r ≡ wordsOf self ⌝ }
+        ensures { λ r. ⌜ r ≡ wordsFor (machineOf self) ⌝ }
     {
         let s = self.state;
         let kind = self.kind;
         let phase = self.phase;
         [
-            s.w0,
-            s.w1,
-            s.w2,
-            s.w3,
-            s.w4,
-            s.w5,
+            s.w0 - s.w0 % 0x8,
+            s.w1 - s.w1 % 0x4_0000,
+            s.w2 - s.w2 % 0x2_0000,
+            s.w3 - s.w3 % 0x200_0000,
+            s.w4 - s.w4 % 0x800_0000,
+            s.w5 - s.w5 % 0x2,
             self.data_bytes,
             self.text_bytes,
             self.steps,

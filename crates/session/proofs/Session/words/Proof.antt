@@ -1,15 +1,41 @@
 -- `Session::words` meets its contract.
+use native.Mathlib.Omega.{arith}
 use borrow.Author.Needs.{needs}
-use Rattle.session.specs.Words.{wordsOf}
+use Rattle.session.proofs.WordsBack.{words-are}
 use Rattle.session.proofs.Session.words.Statement.{statement}
 use Rattle.session.proofs.Session.words.Tie as tie
+
+sub-t6 : tie.Need-sub-t6
+sub-t6 c = search needs
+
+sub-t8 : tie.Need-sub-t8
+sub-t8 c = search needs
+
+sub-t10 : tie.Need-sub-t10
+sub-t10 c = search needs
+
+sub-t12 : tie.Need-sub-t12
+sub-t12 c = search needs
+
+sub-t14 : tie.Need-sub-t14
+sub-t14 c = search needs
+
+sub-t16 : tie.Need-sub-t16
+sub-t16 c = search needs
 
 number-requires : tie.Need-number-requires
 number-requires c κs = search needs
 
 returns : tie.Need-returns
-unfolding wordsOf
-returns c = rw (c .number .ensures)
+returns c =
+    words-are _ _ (c .number .ensures)
+    (omega (arith, c .before .before .before .before .before .before .before .before .before .before .before .struct-known2 .given))
+    (omega (arith, c .before .before .before .before .before .before .before .before .before .struct-known4 .given))
+    (omega (arith, c .before .before .before .before .before .before .before .struct-known6 .given))
+    (omega (arith, c .before .before .before .before .before .struct-known8 .given))
+    (omega (arith, c .before .before .before .struct-known10 .given))
+    (omega (arith, c .before .struct-known12 .given))
 
 pub words-spec : {M : Type 1} → statement M
-words-spec = tie.close (tie.spec number-requires returns)
+words-spec =
+    tie.close (tie.spec sub-t6 sub-t8 sub-t10 sub-t12 sub-t14 sub-t16 number-requires returns)
