@@ -27,12 +27,13 @@ phaseIn n =
 -- ## The twelve words
 
 -- the session's ten, the tickets added, the number of the phase
-unfoldable pub writerWords : Writer → List ℕ
-writerWords w = session.wordsOf (w .session) ++ (w .tickets ∷ phaseNumber (w .phase) ∷ [])
-
 unfoldable pub writerIn : List ℕ → Writer
 writerIn words = record { session = session.sessionIn words; tickets = getD words 10 0; phase = phaseIn (getD words 11 0) }
 
 -- the plain writer that twelve words stand for
 unfoldable pub plainWriterIn : List ℕ → PlainWriter
 plainWriterIn words = writerOf (writerIn words)
+
+-- the twelve words that are stored for a plain writer
+unfoldable pub writerWordsFor : PlainWriter → List ℕ
+writerWordsFor w = session.wordsFor (w .machine) ++ (w .tickets ∷ phaseNumber (w .phase) ∷ [])

@@ -3,7 +3,8 @@ use super::Writer;
 use session::Session;
 use tape_model::WriterPhase;
 ghost use mathlib.Core.Path.{_≡_};
-ghost use Rattle.tape.specs.Words.{phaseNumber, phaseIn, writerWords, writerIn};
+ghost use Rattle.tape.specs.Contracts.{writerOf};
+ghost use Rattle.tape.specs.Words.{phaseNumber, phaseIn, writerIn, writerWordsFor};
 
 fn phase_number(phase: WriterPhase) -> u64
     ensures { λ r. ⌜ r ≡ phaseNumber phase ⌝ }
@@ -53,7 +54,7 @@ impl Writer {
 
     // The words of a writer.
     pub fn words(self) -> [u64; 12]
-        ensures { λ r. ⌜ r ≡ writerWords self ⌝ }
+        ensures { λ r. ⌜ r ≡ writerWordsFor (writerOf self) ⌝ }
     {
         let session = self.session;
         let phase = self.phase;

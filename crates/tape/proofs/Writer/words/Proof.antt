@@ -1,7 +1,8 @@
 -- `Writer::words` meets its contract.
 use borrow.Author.Needs.{needs}
-use Rattle.session.specs.Words.{wordsOf}
-use Rattle.tape.specs.Words.{writerWords}
+use Rattle.session.specs.Words.{wordsOf, wordsFor}
+use Rattle.tape.specs.Contracts.{writerOf}
+use Rattle.tape.specs.Words.{writerWordsFor}
 use Rattle.tape.proofs.Writer.words.Statement.{statement}
 use Rattle.tape.proofs.Writer.words.Tie as tie
 
@@ -42,7 +43,7 @@ phase-number-requires : tie.Need-phase-number-requires
 phase-number-requires c κs = search needs
 
 returns : tie.Need-returns
-unfolding writerWords wordsOf
+unfolding writerWordsFor writerOf wordsFor wordsOf
 returns c = rw (c .before .words .ensures, c .phase-number .ensures)
 
 pub words-spec : {M : Type 1} → statement M
