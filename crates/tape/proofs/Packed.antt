@@ -14,26 +14,13 @@ use Rattle.tape_model.specs.declared.Head.{Head}
 use Rattle.tape_model.specs.Ticket.{ticketLength, ticketRule, packTicket, headLength, headRule, packHead, packHeadInto}
 use Rattle.tape_model.specs.Tape.{nonceOf, isRefused}
 use Rattle.tape_model.proofs.Tickets.{head-length}
-use Rattle.ticket.specs.Packing.{packedAlone}
+use Rattle.ticket.specs.Packing.{packedOrZeros}
 
 -- ## Tickets
 
-module _ (t : Ticket) (a : Reply ℕ) (string : List ℕ) (e : packedAlone t ≡ record { answer = a; out = string }) where
-  abbrev by-rule : Bool → Result ℕ
-  by-rule b = record { answer = done ticketLength; out = packTicket t } if b else record { answer = refused 4; out = replicate ticketLength 0 }
-
-  -- packing is done where the rule is met
-  pub ticket-met : ticketRule t ≡ not (isRefused a)
-  unfolding packedAlone
-  ticket-met = by (ticketRule t) ∙ ap (λ (r : Result ℕ). not (isRefused (r .answer))) e
-    where
-      by : (b : Bool) → b ≡ not (isRefused (by-rule b .answer))
-      by true = refl
-      by false = refl
-
-  pub ticket-packed : ticketRule t ≡ true → string ≡ packTicket t
-  unfolding packedAlone
-  ticket-packed met = sym (ap (λ (r : Result ℕ). r .out) e) ∙ ap (λ (b : Bool). by-rule b .out) met
+pub ticket-packed : (t : Ticket) (string : List ℕ) → string ≡ packedOrZeros t → ticketRule t ≡ true → string ≡ packTicket t
+unfolding packedOrZeros
+ticket-packed t string e met = rw met at e
 
 -- ## Heads
 

@@ -21,7 +21,8 @@ use Rattle.session.specs.Contracts as session
 use Rattle.session.specs.Contracts.{machineOf, wrappedMachine, wrappedReply, wrappedOutcome, Called}
 use Rattle.session.proofs.Wrapping.{within, called-wrapped}
 use Rattle.tape.specs.declared.Writer.{Writer}
-use Rattle.tape.specs.Contracts.{writerOf, outcomeOf, wrappedWriter, wrappedWriterOutcome, WriterCalled, unlessBegun, headTaken}
+use Rattle.tape.specs.declared.WriterReply.{WriterReply}
+use Rattle.tape.specs.Contracts.{writerOf, outcomeOf, wrappedWriter, wrappedWriterOutcome, WriterCalled, refusedReply, unlessBegun, headTaken}
 
 -- ## By the number
 
@@ -70,10 +71,10 @@ module _ (w : Writer) (c : WriterCall) (n : ℕ) (e : n ≡ refusal (writerOf w)
       record { headed = t .0; ticketed = t .1; free = t .2; room = t .3 }
 
   -- a refused call hands the writer on as it was
-  pub refuses : (n ≡ 0 → ⊥) → w .session .steps < 2 ^ 64 → WriterCalled w c (record { answer = Refused n; writer = w }) (outputOf c)
+  pub refuses : (n ≡ 0 → ⊥) → w .session .steps < 2 ^ 64 → (r : WriterReply) → r ≡ refusedReply n w → WriterCalled w c r (outputOf c)
   unfolding outcomeOf answerReply writerCall refusedWith
-  refuses z h =
-      ap (λ (p : PlainWriter). refusedWith n p (outputOf c)) (stays w h) ∙ sym (refused-wrapped n (writerOf w) (outputOf c))
+  refuses z h r is =
+      ap (λ (x : WriterReply). outcomeOf x (outputOf c)) is ∙ ap (λ (p : PlainWriter). refusedWith n p (outputOf c)) (stays w h) ∙ sym (refused-wrapped n (writerOf w) (outputOf c))
       ∙ ap wrappedWriterOutcome (rw (← e) (sym (refused-if n (work (writerOf w) c) (refusedWith n (writerOf w) (outputOf c)) z)))
 
   -- an accepted call does its work

@@ -3,6 +3,7 @@ use mathlib.Core.Path.{_≡_}
 use mathlib.Core.Bool.{Bool, not}
 use mathlib.Core.List.{List}
 use Prim.Native.Nat.{ℕ}
+use Rattle.acorn_model.specs.declared.Answer.the-variants.{Refused}
 use Rattle.acorn_model.specs.Bits.{_if_else_}
 use Rattle.acorn_model.specs.Calls.{Reply, refused, done, Work, accepted, Outcome, answerReply}
 use Rattle.acorn_model.specs.Machine.{Machine, begin, dataCall, call}
@@ -36,6 +37,10 @@ abbrev pub WriterCalled : Writer → WriterCall → WriterReply → List ℕ →
 WriterCalled w c r out = outcomeOf r out ≡ wrappedWriterOutcome (writerCall (writerOf w) c)
 
 -- ## What the private functions cite
+
+-- the reply with a refusal number
+abbrev pub refusedReply : ℕ → Writer → WriterReply
+refusedReply number w = record { answer = Refused number; writer = w }
 
 -- r is the refusal number of each call whose six tests come out so
 abbrev pub IsRefusal : Bool → Bool → Bool → Bool → Bool → Bool → ℕ → Type 0

@@ -11,7 +11,6 @@ use opening::open_refusal;
 use opening::zeros_512;
 use opening::zeros_8192;
 use opening::zeros_65536;
-use refusal::is_done;
 use refusal::is_fresh;
 use refusal::is_open;
 use refusal::number;
@@ -29,7 +28,7 @@ ghost use Rattle.tape_model.specs.Ticket.{headLength, headRule, packHead};
 ghost use Rattle.tape_model.specs.Tape.{nonceOf, openTape, openedReply};
 ghost use Rattle.tape_model.specs.Writer as plain;
 ghost use Rattle.session.specs.Contracts.{machineOf, outcomeOf, wrappedOutcome};
-ghost use Rattle.tape.specs.Contracts.{writerOf, WriterCalled, headTaken};
+ghost use Rattle.tape.specs.Contracts.{writerOf, WriterCalled, refusedReply, headTaken};
 
 pub struct Writer {
     session: Session,
@@ -88,6 +87,16 @@ impl Writer {
         }
     }
 
+    // A call is sent back.
+    fn refused(self, number: u8) -> WriterReply
+        ensures { λ r. ⌜ r ≡ refusedReply number self ⌝ }
+    {
+        WriterReply {
+            answer: Answer::Refused(number),
+            writer: self,
+        }
+    }
+
     // Begins the tape with its head, which is the session's data.
     pub fn start(self, key: &[u8], head: Head, out: &mut [u8]) -> WriterReply
         ensures { λ r. ⌜ WriterCalled self (plain.start (now (key .entry)) head (now (out .entry))) r (now (out .exit)) ⌝ }
@@ -98,10 +107,7 @@ impl Writer {
         let short = out.len() < 9;
         let number = number(is_fresh(phase), keyed, headed, true, false, short);
         if number != 0 {
-            return WriterReply {
-                answer: Answer::Refused(number),
-                writer: self,
-            };
+            return self.refused(number);
         }
         let packed = head_bytes(head);
         let session = self.session;
@@ -125,25 +131,30 @@ impl Writer {
         }
     }
 
-    // Adds a ticket to the tape.
+    // Adds a ticket to the tape. The tests stand one after the other, so that a ticket is known to be valid where it is packed.
     pub fn add(self, ticket: Ticket, out: &mut [u8]) -> WriterReply
         ensures { λ r. ⌜ WriterCalled self (plain.add ticket (now (out .entry))) r (now (out .exit)) ⌝ }
     {
         let phase = self.phase;
         let tickets = self.tickets;
-        let packed = ticket::packed(ticket);
-        let packing = packed.answer;
+        let allowed = is_open(phase);
+        let valid = ticket::valid(ticket);
         let full = 5000 <= tickets;
         let short = out.len() < 13;
-        let number = number(is_open(phase), true, true, is_done(packing), full, short);
-        if number != 0 {
-            return WriterReply {
-                answer: Answer::Refused(number),
-                writer: self,
-            };
+        if !allowed {
+            return self.refused(1);
+        }
+        if !valid {
+            return self.refused(4);
+        }
+        if full {
+            return self.refused(5);
+        }
+        if short {
+            return self.refused(6);
         }
         let session = self.session;
-        let bytes = packed.bytes;
+        let bytes = ticket::packed(ticket);
         let reply = session.seal_text(&bytes, out);
         let answer = reply.answer;
         let Answer::Done(_, _) = answer else {
@@ -170,10 +181,7 @@ impl Writer {
         let phase = self.phase;
         let number = number(is_open(phase), true, true, true, false, out.len() < 16);
         if number != 0 {
-            return WriterReply {
-                answer: Answer::Refused(number),
-                writer: self,
-            };
+            return self.refused(number);
         }
         let session = self.session;
         let reply = session.seal_close(out);

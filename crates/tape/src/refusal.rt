@@ -1,11 +1,7 @@
 // What sends a writer's call back: its tests, and the smallest number that applies.
-use acorn_model::Written;
 use tape_model::WriterPhase;
 ghost use mathlib.Core.Path.{_≡_};
-ghost use mathlib.Core.Bool.{not};
-ghost use Rattle.acorn_model.specs.Calls.{writtenReply};
 ghost use Rattle.tape_model.specs.Writer.{isFresh, isOpen};
-ghost use Rattle.tape_model.specs.Tape.{isRefused};
 ghost use Rattle.tape.specs.Contracts.{IsRefusal};
 
 pub(crate) fn is_fresh(phase: WriterPhase) -> bool
@@ -25,16 +21,6 @@ pub(crate) fn is_open(phase: WriterPhase) -> bool
         WriterPhase::Fresh => false,
         WriterPhase::Open => true,
         WriterPhase::Closed => false,
-    }
-}
-
-// Whether packing was done, and not refused.
-pub(crate) fn is_done(answer: Written) -> bool
-    ensures { λ r. ⌜ r ≡ not (isRefused (writtenReply answer)) ⌝ }
-{
-    match answer {
-        Written::Refused(_) => false,
-        Written::Done(_) => true,
     }
 }
 

@@ -4,16 +4,14 @@ use mathlib.Core.List.{List}
 use lib.Dec.{ltb}
 use lib.ListN.{length, replicate}
 use Rattle.acorn_model.specs.Bits.{_if_else_}
-use Rattle.acorn_model.specs.Calls.{refused, done, accepted}
+use Rattle.acorn_model.specs.Calls.{accepted}
 use Rattle.acorn_model.specs.Message.{Result, resultOf}
 use Rattle.tape_model.specs.declared.Ticket.{Ticket}
 use Rattle.tape_model.specs.Ticket.{ticketLength, ticketRule, packTicket}
 
--- a ticket packed by itself: its bytes, or zeros and 4 where it breaks the rule
-unfoldable pub packedAlone : Ticket → Result ℕ
-packedAlone t =
-    record { answer = done ticketLength; out = packTicket t } if ticketRule t else
-    record { answer = refused 4; out = replicate ticketLength 0 }
+-- a packed ticket, or zeros where it breaks the rule
+unfoldable pub packedOrZeros : Ticket → List ℕ
+packedOrZeros t = packTicket t if ticketRule t else replicate ticketLength 0
 
 -- a string put into lent bytes: 6 where they are too few
 unfoldable pub putInto : List ℕ → List ℕ → Result ℕ

@@ -9,7 +9,7 @@ ghost use Rattle.acorn_model.specs.Calls.{writtenReply};
 ghost use Rattle.tape_model.specs.Format.{join, cut, byteWidths, widths};
 ghost use Rattle.tape_model.specs.Ticket as model;
 ghost use Rattle.tape_model.specs.Tape.{plainTotals, openedReply};
-ghost use Rattle.ticket.specs.Packing.{putInto, packedAlone};
+ghost use Rattle.ticket.specs.Packing.{putInto, packedOrZeros};
 use acorn_model::Written;
 use tape_model::Head;
 use tape_model::OpenedTape;
@@ -151,26 +151,14 @@ pub fn pack_ticket(t: Ticket, out: &mut [u8]) -> Written
     }
 }
 
-// A packed ticket by value, with the answer of packing it.
-pub struct PackedTicket {
-    pub bytes: [u8; 13],
-    pub answer: Written,
-}
-
-// A ticket packed by itself: zeros and 4 for one that breaks the rule.
-pub fn packed(t: Ticket) -> PackedTicket
-    ensures { λ r. ⌜ packedAlone t ≡ record { answer = writtenReply (r .answer); out = r .bytes } ⌝ }
+// A packed ticket by value: zeros for one that breaks the rule.
+pub fn packed(t: Ticket) -> [u8; 13]
+    ensures { λ r. ⌜ r ≡ packedOrZeros t ⌝ }
 {
     if valid(t) {
-        PackedTicket {
-            bytes: packed_ticket(t),
-            answer: Written::Done(13),
-        }
+        packed_ticket(t)
     } else {
-        PackedTicket {
-            bytes: [0; 13],
-            answer: Written::Refused(4),
-        }
+        [0; 13]
     }
 }
 

@@ -21,11 +21,14 @@ is-open-requires c κs = search needs
 number-requires : tie.Need-number-requires
 number-requires c κs = search needs
 
+refused-requires : tie.Need-refused-requires
+refused-requires c κs = search needs
+
 returns : tie.Need-returns
 unfolding outputOf
 returns c =
-    let a = c .before .before .before .before .args in
-    refuses (a .self) (finish (a .out .now)) (c .before .number .result) (number-is (c .before)) (c .if1 .taken) (omega arith)
+    let a = c .before .before .before .before .before .args in
+    refuses (a .self) (finish (a .out .now)) (c .before .before .number .result) (number-is (c .before .before)) (c .before .if1 .taken) (omega arith) _ (c .refused .ensures)
 
 seal-close-requires : tie.Need-seal-close-requires
 seal-close-requires c κs = search needs
@@ -68,6 +71,7 @@ finish-spec =
     (tie.spec
     is-open-requires
     number-requires
+    refused-requires
     returns
     seal-close-requires
     enum-told

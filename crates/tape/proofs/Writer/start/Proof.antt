@@ -39,11 +39,15 @@ is-fresh-requires c κs = search needs
 number-requires : tie.Need-number-requires
 number-requires c κs = search needs
 
+refused-requires : tie.Need-refused-requires
+refused-requires c κs = search needs
+
 returns : tie.Need-returns
 unfolding outputOf
 returns c =
-    let a = c .before .before .before .before .before .before .args in
-    refuses (a .self) (start (a .key .now) (a .head) (a .out .now)) (c .before .number .result) (number-is (c .before)) (c .if1 .taken) (omega arith)
+    let first = c .before .before .before .before .before .before .before in
+    let a = first .args in
+    refuses (a .self) (start (a .key .now) (a .head) (a .out .now)) (c .before .before .number .result) (number-is (c .before .before)) (c .before .if1 .taken) (omega (arith, first)) _ (c .refused .ensures)
 
 head-bytes-requires : tie.Need-head-bytes-requires
 head-bytes-requires c κs = search needs
@@ -103,6 +107,7 @@ start-spec =
     head-valid-requires
     is-fresh-requires
     number-requires
+    refused-requires
     returns
     head-bytes-requires
     slice-aggregate-begin-with-head
