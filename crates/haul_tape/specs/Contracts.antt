@@ -1,7 +1,10 @@
 -- What a C caller sees of each call of include/haul_tape.h: the equations that the contracts are, against the same definitions as the library's own.
 use mathlib.Core.Path.{_≡_}
+use mathlib.Core.Bool.{Bool, false, not}
 use mathlib.Core.List.{List}
 use Prim.Native.Nat.{ℕ}
+use lib.Dec.{eqb}
+use Rattle.acorn_model.specs.Bits.{_if_else_}
 use Rattle.acorn_model.specs.Calls.{Reply, refused, done, Work, Outcome}
 use Rattle.acorn_model.specs.Machine.{Call, call}
 use Rattle.acorn_model.specs.Message.{Result}
@@ -11,9 +14,9 @@ use Rattle.tape_model.specs.Tape.{Totals}
 use Rattle.tape_model.specs.Writer.{WriterCall, writerCall}
 use Rattle.tape_model.specs.Reader.{Reading, ReadOutcome, ticket, atEnd}
 use Rattle.session.specs.Contracts.{wrappedOutcome}
-use Rattle.session.specs.Words.{machineIn}
+use Rattle.session.specs.Words.{machineIn, wordsFor}
 use Rattle.tape.specs.Contracts.{wrappedWriterOutcome}
-use Rattle.tape.specs.Words.{plainWriterIn}
+use Rattle.tape.specs.Words.{plainWriterIn, writerWordsFor}
 use Rattle.haul_tape.specs.declared.HtAnswer.{HtAnswer}
 use Rattle.haul_tape.specs.declared.HtWritten.{HtWritten}
 use Rattle.haul_tape.specs.declared.HtOpened.{HtOpened}
@@ -58,17 +61,26 @@ readingNumbers (done (ticket t)) position = record { refused = 0; «at_end» = 0
 
 -- ## Calls on the words of a session or a writer
 
--- what the call comes to is seen: by what the words stand for after it, by its answer, and by its output after it ([] where it is lent none)
-abbrev pub Seen : {M : Type 0} → Outcome M Work → M → HtAnswer → List ℕ → Type 0
-Seen o next answer out = (next ≡ o .next) × (answer ≡ answerNumbers (o .answer)) × (out ≡ o .out)
+-- whether a call was sent back, and so changed nothing: a wrong tag (7) closes
+unfoldable pub sentBack : Reply Work → Bool
+sentBack (refused n) = not (eqb n 7)
+sentBack (done work) = false
+
+-- The words after a call that comes to o: those of what is handed on, or, where the call was sent back, the words before it.
+unfoldable pub wordsAfter : {M : Type 0} → (M → List ℕ) → List ℕ → Outcome M Work → List ℕ
+wordsAfter wordsFor words o = words if sentBack (o .answer) else wordsFor (o .next)
+
+-- what the call comes to is seen: by the words after it, by its answer, and by its output after it ([] where it is lent none)
+abbrev pub Seen : {M : Type 0} → (M → List ℕ) → List ℕ → Outcome M Work → List ℕ → HtAnswer → List ℕ → Type 0
+Seen wordsFor words o after answer out = (after ≡ wordsAfter wordsFor words o) × (answer ≡ answerNumbers (o .answer)) × (out ≡ o .out)
 
 -- the call c on a session's words, and the words after it
 abbrev pub SessionSeen : List ℕ → Call → List ℕ → HtAnswer → List ℕ → Type 0
-SessionSeen words c after answer out = Seen (wrappedOutcome (call (machineIn words) c)) (machineIn after) answer out
+SessionSeen words c after answer out = Seen wordsFor words (wrappedOutcome (call (machineIn words) c)) after answer out
 
 -- the call c on a writer's words, and the words after it
 abbrev pub WriterSeen : List ℕ → WriterCall → List ℕ → HtAnswer → List ℕ → Type 0
-WriterSeen words c after answer out = Seen (wrappedWriterOutcome (writerCall (plainWriterIn words) c)) (plainWriterIn after) answer out
+WriterSeen words c after answer out = Seen writerWordsFor words (wrappedWriterOutcome (writerCall (plainWriterIn words) c)) after answer out
 
 -- ## Calls on lent bytes alone
 

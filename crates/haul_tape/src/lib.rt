@@ -7,6 +7,7 @@ use numbers::answered;
 use numbers::index;
 use numbers::opened;
 use numbers::reading;
+use numbers::sent_back;
 use numbers::unpacked_head;
 use numbers::unpacked_ticket;
 use numbers::written;
@@ -28,12 +29,12 @@ ghost use Rattle.tape_model.specs.Writer as plain;
 ghost use Rattle.tape_model.specs.Reader.{readNext};
 ghost use Rattle.tape_model.specs.Listing.{listing as tapeListing};
 ghost use Rattle.ticket.specs.Packing.{putInto};
-ghost use Rattle.session.specs.Contracts.{machineOf};
-ghost use Rattle.session.specs.Words.{machineIn};
-ghost use Rattle.tape.specs.Contracts.{writerOf};
-ghost use Rattle.tape.specs.Words.{plainWriterIn};
+ghost use Rattle.session.specs.Contracts.{outcomeOf};
+ghost use Rattle.session.specs.Words.{wordsFor};
+ghost use Rattle.tape.specs.Contracts as tape;
+ghost use Rattle.tape.specs.Words.{writerWordsFor};
 ghost use Rattle.reader.specs.Contracts.{readerAt};
-ghost use Rattle.haul_tape.specs.Contracts.{writtenNumbers, answerNumbers, openedNumbers, ticketNumbers, headNumbers, readNumbers, SessionSeen, WriterSeen, ResultSeen};
+ghost use Rattle.haul_tape.specs.Contracts.{writtenNumbers, answerNumbers, openedNumbers, ticketNumbers, headNumbers, readNumbers, wordsAfter, SessionSeen, WriterSeen, ResultSeen};
 
 // ---- answers ----
 
@@ -109,27 +110,31 @@ pub extern "C" fn ht_open(
 
 #[no_mangle]
 pub extern "C" fn ht_session_fresh_sealing(s: &mut [u64; 10])
-    ensures { λ _. ⌜ machineIn (now (s .exit)) ≡ machine.fresh Sealing ⌝ }
+    ensures { λ _. ⌜ now (s .exit) ≡ wordsFor (machine.fresh Sealing) ⌝ }
 {
     *s = Session::fresh(Kind::Sealing).words();
 }
 
 #[no_mangle]
 pub extern "C" fn ht_session_fresh_checking(s: &mut [u64; 10])
-    ensures { λ _. ⌜ machineIn (now (s .exit)) ≡ machine.fresh Checking ⌝ }
+    ensures { λ _. ⌜ now (s .exit) ≡ wordsFor (machine.fresh Checking) ⌝ }
 {
     *s = Session::fresh(Kind::Checking).words();
 }
 
-// The session after a call goes back into its words, and the answer into numbers.
+// The session after a call goes into its words, unless the call was sent back; and the answer into numbers.
 fn session_handed_back(s: &mut [u64; 10], reply: Reply) -> HtAnswer
     ensures { λ r. ⌜ r ≡ answerNumbers (answerReply (reply .answer)) ⌝ }
-    ensures { λ _. ⌜ machineIn (now (s .exit)) ≡ machineOf (reply .session) ⌝ }
+    ensures { λ _. ⌜ now (s .exit) ≡ wordsAfter wordsFor (now (s .entry)) (outcomeOf reply []) ⌝ }
 {
     let after = reply.session;
     let answer = reply.answer;
+    let told = answered(answer);
+    if sent_back(answer) {
+        return told;
+    }
     *s = after.words();
-    answered(answer)
+    told
 }
 
 #[no_mangle]
@@ -214,20 +219,24 @@ pub extern "C" fn ht_unpack_head(packed: &[u8]) -> HtUnpackedHead
 
 #[no_mangle]
 pub extern "C" fn ht_writer_fresh(w: &mut [u64; 12])
-    ensures { λ _. ⌜ plainWriterIn (now (w .exit)) ≡ plain.freshWriter ⌝ }
+    ensures { λ _. ⌜ now (w .exit) ≡ writerWordsFor plain.freshWriter ⌝ }
 {
     *w = Writer::fresh().words();
 }
 
-// The writer after a call goes back into its words, and the answer into numbers.
+// The writer after a call goes into its words, unless the call was sent back; and the answer into numbers.
 fn writer_handed_back(w: &mut [u64; 12], reply: WriterReply) -> HtAnswer
     ensures { λ r. ⌜ r ≡ answerNumbers (answerReply (reply .answer)) ⌝ }
-    ensures { λ _. ⌜ plainWriterIn (now (w .exit)) ≡ writerOf (reply .writer) ⌝ }
+    ensures { λ _. ⌜ now (w .exit) ≡ wordsAfter writerWordsFor (now (w .entry)) (tape.outcomeOf reply []) ⌝ }
 {
     let after = reply.writer;
     let answer = reply.answer;
+    let told = answered(answer);
+    if sent_back(answer) {
+        return told;
+    }
     *w = after.words();
-    answered(answer)
+    told
 }
 
 #[no_mangle]

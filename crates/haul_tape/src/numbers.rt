@@ -19,7 +19,7 @@ ghost use Rattle.acorn_model.specs.Calls.{answerReply, writtenReply};
 ghost use Rattle.tape_model.specs.Ticket.{ticketReply, headReply};
 ghost use Rattle.tape_model.specs.Tape.{openedReply};
 ghost use Rattle.tape_model.specs.Reader.{nextReply};
-ghost use Rattle.haul_tape.specs.Contracts.{writtenNumbers, answerNumbers, openedNumbers, noTicket, noHead, ticketNumbers, headNumbers, readingNumbers};
+ghost use Rattle.haul_tape.specs.Contracts.{writtenNumbers, answerNumbers, sentBack, openedNumbers, noTicket, noHead, ticketNumbers, headNumbers, readingNumbers};
 
 fn wide(number: u8) -> u32
     ensures { λ r. ⌜ r ≡ number ⌝ }
@@ -94,6 +94,16 @@ pub(crate) fn answered(answer: Answer) -> HtAnswer
             bytes: size(n),
             steps,
         },
+    }
+}
+
+// Whether a call was sent back, and so changed nothing: a wrong tag (7) closes.
+pub(crate) fn sent_back(answer: Answer) -> bool
+    ensures { λ r. ⌜ r ≡ sentBack (answerReply answer) ⌝ }
+{
+    match answer {
+        Answer::Refused(n) => n != 7,
+        Answer::Done(_, _) => false,
     }
 }
 

@@ -5,7 +5,6 @@ use tape_model::OpenedTape;
 use tape_model::Ticket;
 use tape_model::UnpackedHead;
 use tape_model::UnpackedTicket;
-use ticket::PackedTicket;
 
 // Case (h)'s ticket with these times and weights.
 fn ticket_with(loaded: u32, tipped: u32, gross: u32, tare: u32) -> Ticket {
@@ -93,10 +92,9 @@ fn print_ticket(t: Ticket, out: &mut [u8]) {
 }
 
 // A ticket packed by value.
-fn print_by_value(p: PackedTicket) {
-    let answer = p.answer;
-    let bytes = p.bytes;
-    print_packed(answer, &bytes);
+fn print_by_value(packed: [u8; 13]) {
+    print_bytes(&packed);
+    io::write_all(1, b"\n");
 }
 
 fn print_totals(answer: OpenedTape) {

@@ -1,18 +1,28 @@
 -- `session_handed_back` meets its contract.
-use mathlib.Core.Path.{refl}
+use mathlib.Core.Path.{sym, _∙_}
 use borrow.Author.Needs.{needs}
-use Rattle.haul_tape.proofs.Seeing.{session-stored}
+use Rattle.session.specs.Contracts.{outcomeOf}
+use Rattle.haul_tape.specs.Contracts.{wordsAfter}
 use Rattle.haul_tape.proofs.session_handed_back.Statement.{statement}
 use Rattle.haul_tape.proofs.session_handed_back.Tie as tie
-
-words-requires : tie.Need-words-requires
-words-requires c κs = search needs
 
 answered-requires : tie.Need-answered-requires
 answered-requires c κs = search needs
 
+sent-back-requires : tie.Need-sent-back-requires
+sent-back-requires c κs = search needs
+
 returns : tie.Need-returns
-returns c = (c .answered .ensures, session-stored _ _ _ (c .before .words .ensures) refl)
+unfolding wordsAfter outcomeOf
+returns c = (c .before .before .answered .ensures, rw (sym (c .before .sent-back .ensures) ∙ c .if1 .taken))
+
+words-requires : tie.Need-words-requires
+words-requires c κs = search needs
+
+returns-2 : tie.Need-returns-2
+unfolding wordsAfter outcomeOf
+returns-2 c = (c .before .before .before .answered .ensures, rw (sym (c .before .before .sent-back .ensures) ∙ c .before .if1 .left) (c .words .ensures))
 
 pub session-handed-back-spec : {M : Type 1} → statement M
-session-handed-back-spec = tie.close (tie.spec words-requires answered-requires returns)
+session-handed-back-spec =
+    tie.close (tie.spec answered-requires sent-back-requires returns words-requires returns-2)
