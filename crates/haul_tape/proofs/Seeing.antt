@@ -16,8 +16,9 @@ use Rattle.tape.specs.declared.WriterReply.{WriterReply}
 use Rattle.tape.specs.Contracts as tape
 use Rattle.tape.specs.Contracts.{writerOf, wrappedWriterOutcome, WriterCalled}
 use Rattle.tape.specs.Words.{writerIn, plainWriterIn, writerWordsFor}
-use Rattle.haul_tape.specs.declared.HtAnswer.{HtAnswer}
-use Rattle.haul_tape.specs.Contracts.{answerNumbers, sentBack, wordsAfter, Seen, SessionSeen, WriterSeen, ResultSeen}
+use Rattle.c_answers.specs.declared.HtAnswer.{HtAnswer}
+use Rattle.c_answers.specs.Answers.{answerNumbers, sentBack}
+use Rattle.haul_tape.specs.Contracts.{wordsAfter, Seen, SessionSeen, WriterSeen, ResultSeen}
 
 -- ## Calls on words
 

@@ -1,16 +1,19 @@
 // The interface for C, as include/haul_tape.h declares it and in its order. Nothing is asked of the caller but what the header says of pointers:
 // any numbers and any words are taken, and each call's contract is an equation against the definitions of the library's own.
-mod numbers;
-
 use acorn_model::Kind;
-use numbers::answered;
-use numbers::index;
-use numbers::opened;
-use numbers::reading;
-use numbers::sent_back;
-use numbers::unpacked_head;
-use numbers::unpacked_ticket;
-use numbers::written;
+use c_answers::HtAnswer;
+use c_answers::HtOpened;
+use c_answers::HtReading;
+use c_answers::HtUnpackedHead;
+use c_answers::HtUnpackedTicket;
+use c_answers::HtWritten;
+use c_answers::answered;
+use c_answers::opened;
+use c_answers::reading;
+use c_answers::sent_back;
+use c_answers::unpacked_head;
+use c_answers::unpacked_ticket;
+use c_answers::written;
 use session::Reply;
 use session::Session;
 use tape::Writer;
@@ -34,49 +37,8 @@ ghost use Rattle.session.specs.Words.{wordsFor};
 ghost use Rattle.tape.specs.Contracts as tape;
 ghost use Rattle.tape.specs.Words.{writerWordsFor};
 ghost use Rattle.reader.specs.Contracts.{readerAt};
-ghost use Rattle.haul_tape.specs.Contracts.{writtenNumbers, answerNumbers, openedNumbers, ticketNumbers, headNumbers, readNumbers, wordsAfter, SessionSeen, WriterSeen, ResultSeen};
-
-// ---- answers ----
-
-#[repr(C)]
-pub struct HtWritten {
-    pub refused: u32,
-    pub bytes: u64,
-}
-
-#[repr(C)]
-pub struct HtAnswer {
-    pub refused: u32,
-    pub bytes: u64,
-    pub steps: u64,
-}
-
-#[repr(C)]
-pub struct HtOpened {
-    pub refused: u32,
-    pub tickets: u64,
-    pub net: u64,
-}
-
-#[repr(C)]
-pub struct HtUnpackedTicket {
-    pub refused: u32,
-    pub ticket: Ticket,
-}
-
-#[repr(C)]
-pub struct HtUnpackedHead {
-    pub refused: u32,
-    pub head: Head,
-}
-
-#[repr(C)]
-pub struct HtReading {
-    pub refused: u32,
-    pub at_end: u32,
-    pub position: u64,
-    pub ticket: Ticket,
-}
+ghost use Rattle.c_answers.specs.Answers.{writtenNumbers, answerNumbers, openedNumbers, ticketNumbers, headNumbers};
+ghost use Rattle.haul_tape.specs.Contracts.{readNumbers, wordsAfter, SessionSeen, WriterSeen, ResultSeen};
 
 // ---- whole messages ----
 
@@ -273,6 +235,12 @@ pub extern "C" fn ht_open_tape(key: &[u8], tape: &[u8], out: &mut [u8]) -> HtOpe
     ensures { λ r. ⌜ ResultSeen openedNumbers (openTape (now (key .entry)) (now (tape .entry)) (now (out .entry))) r (now (out .exit)) ⌝ }
 {
     opened(tape::open_tape(key, tape, out))
+}
+
+fn index(n: u64) -> usize
+    ensures { λ r. ⌜ r ≡ n ⌝ }
+{
+    n as usize
 }
 
 #[no_mangle]

@@ -155,11 +155,7 @@ pub fn pack_ticket(t: Ticket, out: &mut [u8]) -> Written
 pub fn packed(t: Ticket) -> [u8; 13]
     ensures { λ r. ⌜ r ≡ packedOrZeros t ⌝ }
 {
-    if valid(t) {
-        packed_ticket(t)
-    } else {
-        [0; 13]
-    }
+    if valid(t) { packed_ticket(t) } else { [0; 13] }
 }
 
 // Writes a packed head: 3 for one that breaks the rule, 6 for an output under 9 bytes.

@@ -1,7 +1,7 @@
 -- `ht_open_tape` meets its contract.
 use borrow.Author.Needs.{needs}
 use Rattle.haul_tape.proofs.Seeing.{result-seen}
-use Rattle.haul_tape.specs.Contracts.{openedNumbers}
+use Rattle.c_answers.specs.Answers.{openedNumbers}
 use Rattle.haul_tape.proofs.ht_open_tape.Statement.{statement}
 use Rattle.haul_tape.proofs.ht_open_tape.Tie as tie
 

@@ -1,7 +1,7 @@
 -- `ht_pack_head` meets its contract.
 use borrow.Author.Needs.{needs}
 use Rattle.haul_tape.proofs.Seeing.{result-seen}
-use Rattle.haul_tape.specs.Contracts.{writtenNumbers}
+use Rattle.c_answers.specs.Answers.{writtenNumbers}
 use Rattle.haul_tape.proofs.ht_pack_head.Statement.{statement}
 use Rattle.haul_tape.proofs.ht_pack_head.Tie as tie
 

@@ -1,7 +1,7 @@
 -- `ht_unpack_head` meets its contract.
 use mathlib.Core.Path.{ap, _∙_}
 use borrow.Author.Needs.{needs}
-use Rattle.haul_tape.specs.Contracts.{headNumbers}
+use Rattle.c_answers.specs.Answers.{headNumbers}
 use Rattle.haul_tape.proofs.ht_unpack_head.Statement.{statement}
 use Rattle.haul_tape.proofs.ht_unpack_head.Tie as tie
 

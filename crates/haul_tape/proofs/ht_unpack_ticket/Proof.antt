@@ -1,7 +1,7 @@
 -- `ht_unpack_ticket` meets its contract.
 use mathlib.Core.Path.{ap, _∙_}
 use borrow.Author.Needs.{needs}
-use Rattle.haul_tape.specs.Contracts.{ticketNumbers}
+use Rattle.c_answers.specs.Answers.{ticketNumbers}
 use Rattle.haul_tape.proofs.ht_unpack_ticket.Statement.{statement}
 use Rattle.haul_tape.proofs.ht_unpack_ticket.Tie as tie
 

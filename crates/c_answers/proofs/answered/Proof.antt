@@ -1,9 +1,9 @@
 -- `answered` meets its contract.
 use borrow.Author.Needs.{needs}
 use Rattle.acorn_model.specs.Calls.{answerReply}
-use Rattle.haul_tape.specs.Contracts.{answerNumbers}
-use Rattle.haul_tape.proofs.numbers.answered.Statement.{statement}
-use Rattle.haul_tape.proofs.numbers.answered.Tie as tie
+use Rattle.c_answers.specs.Answers.{answerNumbers}
+use Rattle.c_answers.proofs.answered.Statement.{statement}
+use Rattle.c_answers.proofs.answered.Tie as tie
 
 enum-known-answer : tie.Need-enum-known-answer
 enum-known-answer c = search needs

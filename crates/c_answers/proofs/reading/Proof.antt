@@ -1,9 +1,9 @@
 -- `reading` meets its contract.
 use borrow.Author.Needs.{needs}
 use Rattle.tape_model.specs.Reader.{nextReply}
-use Rattle.haul_tape.specs.Contracts.{readingNumbers}
-use Rattle.haul_tape.proofs.numbers.reading.Statement.{statement}
-use Rattle.haul_tape.proofs.numbers.reading.Tie as tie
+use Rattle.c_answers.specs.Answers.{readingNumbers}
+use Rattle.c_answers.proofs.reading.Statement.{statement}
+use Rattle.c_answers.proofs.reading.Tie as tie
 
 size-requires : tie.Need-size-requires
 size-requires c κs = search needs

@@ -1,9 +1,9 @@
 -- `unpacked_ticket` meets its contract.
 use borrow.Author.Needs.{needs}
 use Rattle.tape_model.specs.Ticket.{ticketReply}
-use Rattle.haul_tape.specs.Contracts.{ticketNumbers}
-use Rattle.haul_tape.proofs.numbers.unpacked_ticket.Statement.{statement}
-use Rattle.haul_tape.proofs.numbers.unpacked_ticket.Tie as tie
+use Rattle.c_answers.specs.Answers.{ticketNumbers}
+use Rattle.c_answers.proofs.unpacked_ticket.Statement.{statement}
+use Rattle.c_answers.proofs.unpacked_ticket.Tie as tie
 
 enum-known-answer : tie.Need-enum-known-answer
 enum-known-answer c = search needs

@@ -1,9 +1,9 @@
 -- `written` meets its contract.
 use borrow.Author.Needs.{needs}
 use Rattle.acorn_model.specs.Calls.{writtenReply}
-use Rattle.haul_tape.specs.Contracts.{writtenNumbers}
-use Rattle.haul_tape.proofs.numbers.written.Statement.{statement}
-use Rattle.haul_tape.proofs.numbers.written.Tie as tie
+use Rattle.c_answers.specs.Answers.{writtenNumbers}
+use Rattle.c_answers.proofs.written.Statement.{statement}
+use Rattle.c_answers.proofs.written.Tie as tie
 
 enum-known-answer : tie.Need-enum-known-answer
 enum-known-answer c = search needs

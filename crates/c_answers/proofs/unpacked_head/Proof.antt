@@ -1,9 +1,9 @@
 -- `unpacked_head` meets its contract.
 use borrow.Author.Needs.{needs}
 use Rattle.tape_model.specs.Ticket.{headReply}
-use Rattle.haul_tape.specs.Contracts.{headNumbers}
-use Rattle.haul_tape.proofs.numbers.unpacked_head.Statement.{statement}
-use Rattle.haul_tape.proofs.numbers.unpacked_head.Tie as tie
+use Rattle.c_answers.specs.Answers.{headNumbers}
+use Rattle.c_answers.proofs.unpacked_head.Statement.{statement}
+use Rattle.c_answers.proofs.unpacked_head.Tie as tie
 
 enum-known-answer : tie.Need-enum-known-answer
 enum-known-answer c = search needs

@@ -1,9 +1,9 @@
 -- `sent_back` meets its contract.
 use borrow.Author.Needs.{needs}
 use Rattle.acorn_model.specs.Calls.{answerReply}
-use Rattle.haul_tape.specs.Contracts.{sentBack}
-use Rattle.haul_tape.proofs.numbers.sent_back.Statement.{statement}
-use Rattle.haul_tape.proofs.numbers.sent_back.Tie as tie
+use Rattle.c_answers.specs.Answers.{sentBack}
+use Rattle.c_answers.proofs.sent_back.Statement.{statement}
+use Rattle.c_answers.proofs.sent_back.Tie as tie
 
 enum-known-answer : tie.Need-enum-known-answer
 enum-known-answer c = search needs

@@ -1,9 +1,9 @@
 -- `opened` meets its contract.
 use borrow.Author.Needs.{needs}
 use Rattle.tape_model.specs.Tape.{openedReply}
-use Rattle.haul_tape.specs.Contracts.{openedNumbers}
-use Rattle.haul_tape.proofs.numbers.opened.Statement.{statement}
-use Rattle.haul_tape.proofs.numbers.opened.Tie as tie
+use Rattle.c_answers.specs.Answers.{openedNumbers}
+use Rattle.c_answers.proofs.opened.Statement.{statement}
+use Rattle.c_answers.proofs.opened.Tie as tie
 
 enum-known-answer : tie.Need-enum-known-answer
 enum-known-answer c = search needs

@@ -1,10 +1,5 @@
-// Answers in numbers, for C: `refused` is 0 where the call was done; else it is the number, and the rest is zeros.
-use super::HtAnswer;
-use super::HtOpened;
-use super::HtReading;
-use super::HtUnpackedHead;
-use super::HtUnpackedTicket;
-use super::HtWritten;
+// Answers as structs of numbers, for C: `refused` is 0 where the call was done; else it is the number, and the rest is zeros, but that a
+// reading's position stays.
 use acorn_model::Answer;
 use acorn_model::Written;
 use reader::ReadAt;
@@ -19,7 +14,47 @@ ghost use Rattle.acorn_model.specs.Calls.{answerReply, writtenReply};
 ghost use Rattle.tape_model.specs.Ticket.{ticketReply, headReply};
 ghost use Rattle.tape_model.specs.Tape.{openedReply};
 ghost use Rattle.tape_model.specs.Reader.{nextReply};
-ghost use Rattle.haul_tape.specs.Contracts.{writtenNumbers, answerNumbers, sentBack, openedNumbers, noTicket, noHead, ticketNumbers, headNumbers, readingNumbers};
+ghost use Rattle.c_answers.specs.Answers.{writtenNumbers, answerNumbers, sentBack, openedNumbers, noTicket, noHead, ticketNumbers, headNumbers, readingNumbers};
+
+#[repr(C)]
+pub struct HtWritten {
+    pub refused: u32,
+    pub bytes: u64,
+}
+
+#[repr(C)]
+pub struct HtAnswer {
+    pub refused: u32,
+    pub bytes: u64,
+    pub steps: u64,
+}
+
+#[repr(C)]
+pub struct HtOpened {
+    pub refused: u32,
+    pub tickets: u64,
+    pub net: u64,
+}
+
+#[repr(C)]
+pub struct HtUnpackedTicket {
+    pub refused: u32,
+    pub ticket: Ticket,
+}
+
+#[repr(C)]
+pub struct HtUnpackedHead {
+    pub refused: u32,
+    pub head: Head,
+}
+
+#[repr(C)]
+pub struct HtReading {
+    pub refused: u32,
+    pub at_end: u32,
+    pub position: u64,
+    pub ticket: Ticket,
+}
 
 fn wide(number: u8) -> u32
     ensures { λ r. ⌜ r ≡ number ⌝ }
@@ -31,12 +66,6 @@ fn size(n: usize) -> u64
     ensures { λ r. ⌜ r ≡ n ⌝ }
 {
     n as u64
-}
-
-pub(crate) fn index(n: u64) -> usize
-    ensures { λ r. ⌜ r ≡ n ⌝ }
-{
-    n as usize
 }
 
 fn no_ticket() -> Ticket
@@ -65,7 +94,7 @@ fn no_head() -> Head
     }
 }
 
-pub(crate) fn written(answer: Written) -> HtWritten
+pub fn written(answer: Written) -> HtWritten
     ensures { λ r. ⌜ r ≡ writtenNumbers (writtenReply answer) ⌝ }
 {
     match answer {
@@ -80,7 +109,7 @@ pub(crate) fn written(answer: Written) -> HtWritten
     }
 }
 
-pub(crate) fn answered(answer: Answer) -> HtAnswer
+pub fn answered(answer: Answer) -> HtAnswer
     ensures { λ r. ⌜ r ≡ answerNumbers (answerReply answer) ⌝ }
 {
     match answer {
@@ -98,7 +127,7 @@ pub(crate) fn answered(answer: Answer) -> HtAnswer
 }
 
 // Whether a call was sent back, and so changed nothing: a wrong tag (7) closes.
-pub(crate) fn sent_back(answer: Answer) -> bool
+pub fn sent_back(answer: Answer) -> bool
     ensures { λ r. ⌜ r ≡ sentBack (answerReply answer) ⌝ }
 {
     match answer {
@@ -107,7 +136,7 @@ pub(crate) fn sent_back(answer: Answer) -> bool
     }
 }
 
-pub(crate) fn opened(answer: OpenedTape) -> HtOpened
+pub fn opened(answer: OpenedTape) -> HtOpened
     ensures { λ r. ⌜ r ≡ openedNumbers (openedReply answer) ⌝ }
 {
     match answer {
@@ -124,7 +153,7 @@ pub(crate) fn opened(answer: OpenedTape) -> HtOpened
     }
 }
 
-pub(crate) fn unpacked_ticket(answer: UnpackedTicket) -> HtUnpackedTicket
+pub fn unpacked_ticket(answer: UnpackedTicket) -> HtUnpackedTicket
     ensures { λ r. ⌜ r ≡ ticketNumbers (ticketReply answer) ⌝ }
 {
     match answer {
@@ -136,7 +165,7 @@ pub(crate) fn unpacked_ticket(answer: UnpackedTicket) -> HtUnpackedTicket
     }
 }
 
-pub(crate) fn unpacked_head(answer: UnpackedHead) -> HtUnpackedHead
+pub fn unpacked_head(answer: UnpackedHead) -> HtUnpackedHead
     ensures { λ r. ⌜ r ≡ headNumbers (headReply answer) ⌝ }
 {
     match answer {
@@ -148,7 +177,7 @@ pub(crate) fn unpacked_head(answer: UnpackedHead) -> HtUnpackedHead
     }
 }
 
-pub(crate) fn reading(read: ReadAt) -> HtReading
+pub fn reading(read: ReadAt) -> HtReading
     ensures { λ r. ⌜ r ≡ readingNumbers (nextReply (read .answer)) (read .position) ⌝ }
 {
     let answer = read.answer;

@@ -1,0 +1,55 @@
+-- What a C caller is told: each answer of the library as a struct of numbers.
+use mathlib.Core.Bool.{Bool, false, not}
+use Prim.Native.Nat.{ℕ}
+use lib.Dec.{eqb}
+use Rattle.acorn_model.specs.Calls.{Reply, refused, done, Work}
+use Rattle.tape_model.specs.declared.Ticket.{Ticket}
+use Rattle.tape_model.specs.declared.Head.{Head}
+use Rattle.tape_model.specs.Tape.{Totals}
+use Rattle.tape_model.specs.Reader.{Reading, ticket, atEnd}
+use Rattle.c_answers.specs.declared.HtAnswer.{HtAnswer}
+use Rattle.c_answers.specs.declared.HtWritten.{HtWritten}
+use Rattle.c_answers.specs.declared.HtOpened.{HtOpened}
+use Rattle.c_answers.specs.declared.HtUnpackedTicket.{HtUnpackedTicket}
+use Rattle.c_answers.specs.declared.HtUnpackedHead.{HtUnpackedHead}
+use Rattle.c_answers.specs.declared.HtReading.{HtReading}
+
+-- `refused` is 0 where the call was done; else it is the number, and all that the call would answer is zeros
+
+unfoldable pub writtenNumbers : Reply ℕ → HtWritten
+writtenNumbers (refused n) = record { refused = n; bytes = 0 }
+writtenNumbers (done bytes) = record { refused = 0; bytes = bytes }
+
+unfoldable pub answerNumbers : Reply Work → HtAnswer
+answerNumbers (refused n) = record { refused = n; bytes = 0; steps = 0 }
+answerNumbers (done work) = record { refused = 0; bytes = work .bytes; steps = work .steps }
+
+unfoldable pub openedNumbers : Reply Totals → HtOpened
+openedNumbers (refused n) = record { refused = n; tickets = 0; net = 0 }
+openedNumbers (done totals) = record { refused = 0; tickets = totals .tickets; net = totals .net }
+
+-- the zeros in place of a ticket, and of a head
+abbrev pub noTicket : Ticket
+noTicket = record { form = 0; truck = 0; shovel = 0; tip = 0; grade = 0; loaded = 0; tipped = 0; gross = 0; tare = 0 }
+
+abbrev pub noHead : Head
+noHead = record { device = 0; shift = 0; sheet = 0 }
+
+unfoldable pub ticketNumbers : Reply Ticket → HtUnpackedTicket
+ticketNumbers (refused n) = record { refused = n; ticket = noTicket }
+ticketNumbers (done t) = record { refused = 0; ticket = t }
+
+unfoldable pub headNumbers : Reply Head → HtUnpackedHead
+headNumbers (refused n) = record { refused = n; head = noHead }
+headNumbers (done h) = record { refused = 0; head = h }
+
+-- what was read, and the position after it
+unfoldable pub readingNumbers : Reply Reading → ℕ → HtReading
+readingNumbers (refused n) position = record { refused = n; «at_end» = 0; position = position; ticket = noTicket }
+readingNumbers (done atEnd) position = record { refused = 0; «at_end» = 1; position = position; ticket = noTicket }
+readingNumbers (done (ticket t)) position = record { refused = 0; «at_end» = 0; position = position; ticket = t }
+
+-- whether a call was sent back, and so changed nothing: a wrong tag (7) closes
+unfoldable pub sentBack : Reply Work → Bool
+sentBack (refused n) = not (eqb n 7)
+sentBack (done work) = false
