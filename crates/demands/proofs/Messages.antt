@@ -8,7 +8,7 @@ use lib.ListN.{length}
 use Rattle.acorn_model.specs.declared.Written.{Written}
 use Rattle.acorn_model.specs.Bits.{Bits, AreBytes, _if_else_, bitsIn, bytes}
 use Rattle.acorn_model.specs.Stretches.{tagLength}
-use Rattle.acorn_model.specs.Paper.{ciphertext, tag}
+use Rattle.acorn_model.specs.Paper.{ciphertext, tag, decrypted, newTag}
 use Rattle.acorn_model.specs.Calls.{Reply, done, refused, unlessRefused, writtenReply, writtenOver}
 use Rattle.acorn_model.specs.Message.{resultOf, sealed, tagMatches, opened, tagRefusal, openRefusal, sealMessage, openMessage}
 use Rattle.acorn_model.specs.Laws.{ByPaper, WithinLimits}
@@ -18,7 +18,7 @@ use Rattle.demands.specs.Messages.{Seals, OpensTo, MessageDemand}
 
 module _ (key nonce «data» : List ℕ) where
   -- the paper's ciphertext and tag are the sealed bytes
-  by-paper : (text : List ℕ) (c T : Bits) → ByPaper key nonce «data» (length text) (bitsIn text) c T → bytes (length text) c ++ bytes tagLength T ≡ sealed key nonce «data» text
+  pub by-paper : (text : List ℕ) (c T : Bits) → ByPaper key nonce «data» (length text) (bitsIn text) c T → bytes (length text) c ++ bytes tagLength T ≡ sealed key nonce «data» text
   unfolding sealed
   by-paper text c T p = let e = paper-computed key nonce «data» .sealing-only text c T p in ap₂ _++_ (e .0) (e .1)
 
@@ -36,6 +36,8 @@ module _ (key nonce «data» : List ℕ) where
             let e = sym h ∙ message-laws key nonce «data» .seals text out w room in
             (λ i. e i .answer, (λ i. e i .out) ∙ ap (λ (l : List ℕ). writtenOver l out) (sym (by-paper text c T p)));
         sealable = λ text. (bitsIn (ciphertext key nonce «data» text), bitsIn (tag key nonce «data» text), paper-computed key nonce «data» .sealing text);
+        openable = λ cipher h.
+            (bitsIn (decrypted key nonce «data» cipher), bitsIn (newTag key nonce «data» cipher), paper-computed key nonce «data» .opening cipher h);
         opening = λ s text out after r hs ht w room h c T p.
             let e = message-laws key nonce «data» .opens-exactly s text out hs ht in (
               λ (a : (writtenReply r ≡ done (length text)) × (after ≡ writtenOver text out)).

@@ -1,11 +1,18 @@
--- Demand 3 on sessions, from the contracts of the methods and from what the machine is after a list.
+-- Demands 3 and 2 on sessions, from the contracts of the methods and from what the machine is after a list.
 use mathlib.Core.Path.{_≡_, refl, sym, ap, ap₂, _∙_, subst}
-use mathlib.Core.List.{List, []}
+use mathlib.Core.List.{List, [], _∷_, _++_}
+use mathlib.Core.Logic.{_↔_}
 use Prim.Native.Nat.{ℕ}
+use lib.ListN.{length}
 use Rattle.acorn_model.specs.declared.Kind.{Kind}
-use Rattle.acorn_model.specs.Calls.{Reply, Work, Outcome, answerReply, Entry, callsOf, entries, handedOn}
+use Rattle.acorn_model.specs.declared.Kind.the-variants.{Sealing, Checking}
+use Rattle.acorn_model.specs.Bits.{Bits, AreBytes, bitsIn, bytes}
+use Rattle.acorn_model.specs.Stretches.{tagLength}
+use Rattle.acorn_model.specs.Paper.{newTag}
+use Rattle.acorn_model.specs.Calls.{Reply, refused, done, Work, Outcome, answerReply, Entry, callsOf, entries, handedOn}
 use Rattle.acorn_model.specs.Machine.{Machine, Call, fresh, call}
-use Rattle.acorn_model.specs.Lists.{Log, logOf, Ended, Alike}
+use Rattle.acorn_model.specs.Lists.{Arguments, Log, logOf, Ended, Alike}
+use Rattle.acorn_model.proofs.Proved.{paper-computed}
 use Rattle.call_lists.specs.MachineLists.{machineAfter, logFrom, endedSteps}
 use Rattle.call_lists.proofs.Reached.{Reached, fresh-reached, reached-small}
 use Rattle.call_lists.proofs.After.{call-kept}
@@ -14,7 +21,8 @@ use Rattle.session.specs.declared.Session.{Session}
 use Rattle.session.specs.declared.Reply.{Reply as SessionReply}
 use Rattle.session.specs.Contracts.{machineOf, outcomeOf, Called}
 use Rattle.session.proofs.Wrapping.{called-within}
-use Rattle.demands.specs.Sessions.{SessionList, SessionDemand}
+use Rattle.demands.specs.Sessions.{SessionList, PaperOf, SessionDemand}
+use Rattle.demands.proofs.Messages.{by-paper}
 use Rattle.demands.proofs.AsModel.{as-model}
 
 -- a machine that a list of calls led to
@@ -66,5 +74,34 @@ module _ (kind : Kind) (es es′ : List (Entry Call)) (e e′ : Session) (l : Se
         ap (λ (x : Log). x .verdicts) m ∙ c .2 ∙ sym (ap (λ (x : Log). x .verdicts) m′),
       )
 
+-- ## By the paper
+
+began : (kind : Kind) (es : List (Entry Call)) (e : Session) → SessionList kind es e → Ended (machineOf e) → (a : Arguments) × (logOf es .begins ≡ (a ∷ []))
+began kind es e l h =
+    let b = machine-lists .began kind (callsOf es) (ended kind es e l h) in
+    (b .0, ap (λ (x : Log). x .begins) (same-log kind es e l) ∙ b .1)
+
+sealed : (es : List (Entry Call)) (e : Session) → SessionList Sealing es e → Ended (machineOf e)
+    → (a : Arguments) → logOf es .begins ≡ (a ∷ []) → (c T : Bits) → PaperOf (logOf es) a (bitsIn (logOf es .text)) c T
+    → logOf es .written ≡ bytes (length (logOf es .text)) c ++ bytes tagLength T
+sealed es e l h a =
+    subst (λ (x : Log). x .begins ≡ (a ∷ []) → (c T : Bits) → PaperOf x a (bitsIn (x .text)) c T → x .written ≡ bytes (length (x .text)) c ++ bytes tagLength T)
+    (sym (same-log Sealing es e l))
+    (λ b c T p. machine-lists .wrote (callsOf es) a (ended Sealing es e l h) b ∙ sym (by-paper (a .key) (a .nonce) _ _ c T p))
+
+judged : (es : List (Entry Call)) (e : Session) → SessionList Checking es e → Ended (machineOf e) → AreBytes (logOf es .text)
+    → (a : Arguments) → logOf es .begins ≡ (a ∷ []) → (p T : Bits) → PaperOf (logOf es) a p (bitsIn (logOf es .text)) T
+    → (logOf es .written ≡ []) × ((t : List ℕ) × (logOf es .tags ≡ (t ∷ []))
+    × ((logOf es .verdicts ≡ (done (record { bytes = 0; steps = endedSteps (logOf es) }) ∷ [])) ↔ (t ≡ bytes tagLength T))
+    × ((logOf es .verdicts ≡ (refused 7 ∷ [])) ↔ (t ≡ bytes tagLength T → ⊥)))
+judged es e l h k a b p T q =
+    let m = same-log Checking es e l in
+    let j = subst
+    (λ (x : Log). x .begins ≡ (a ∷ []) → (x .written ≡ []) × ((t : List ℕ) × (x .tags ≡ (t ∷ []))
+    × ((x .verdicts ≡ (done (record { bytes = 0; steps = endedSteps x }) ∷ [])) ↔ (t ≡ newTag (a .key) (a .nonce) (x .«data») (x .text)))
+    × ((x .verdicts ≡ (refused 7 ∷ [])) ↔ (t ≡ newTag (a .key) (a .nonce) (x .«data») (x .text) → ⊥))))
+    (sym m) (machine-lists .judged (callsOf es) a (ended Checking es e l h)) b in
+    rw (paper-computed (a .key) (a .nonce) (logOf es .«data») .opening-only (logOf es .text) p T k q .1) j
+
 pub session-demand : SessionDemand
-session-demand = record { as-machine = as-machine; counted = counted; cuts = cuts }
+session-demand = record { as-machine = as-machine; counted = counted; cuts = cuts; began = began; sealed = sealed; judged = judged }

@@ -29,6 +29,8 @@ module _ (key nonce «data» : List ℕ) where
         → (writtenReply r ≡ done (length text + tagLength)) × (after ≡ writtenOver (bytes (length text) c ++ bytes tagLength T) out)
     -- and there is such a ciphertext and tag
     pub sealable : (text : List ℕ) → (c T : Bits) × ByPaper key nonce «data» (length text) (bitsIn text) c T
+    -- and every ciphertext is that of a text, with a tag
+    pub openable : (cipher : List ℕ) → AreBytes cipher → (p T : Bits) × ByPaper key nonce «data» (length cipher) p (bitsIn cipher) T
     -- a text is given exactly when the sealed bytes are the paper's ciphertext and tag of it
     pub opening : (sealedBytes text out after : List ℕ) (r : Written) → AreBytes sealedBytes → AreBytes text
         → WithinLimits key nonce «data» text → length text ≤ length out → OpensTo key nonce «data» sealedBytes out r after
