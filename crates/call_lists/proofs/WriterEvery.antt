@@ -2,7 +2,7 @@
 use mathlib.Core.Path.{_≡_, refl, sym, ap, _∙_, subst}
 use mathlib.Core.Bool.{true}
 use mathlib.Core.List.{List, [], _∷_, _++_}
-use Prim.Native.Nat.{ℕ, _+_, _≤_}
+use Prim.Native.Nat.{ℕ, suc, _+_, _≤_, _<_}
 use native.Mathlib.Omega.{arith}
 use lib.ListN.{length}
 use borrow.Author.Tests.{le-ltb, lt-leb, eq-eqb}
@@ -19,7 +19,7 @@ use Rattle.tape_model.specs.Tape.{ticketLimit, tapeOf}
 use Rattle.tape_model.specs.Writer.{PlainWriter, freshWriter, WriterCall, start, add, finish, phaseAllows, keyRight, headRight, ticketRight, tapeFull, outputShort, refusal, work, writerCall}
 use Rattle.tape_model.specs.WriterLists.{Started, startOf, ticketsOf, WriterLog, writerLog}
 use Rattle.tape_model.specs.Laws.{Valid}
-use Rattle.call_lists.specs.WriterLists.{writerLogFrom, adds, tapeCalls, EveryTapeWritten}
+use Rattle.call_lists.specs.WriterLists.{writerLogFrom, AllAccepted, TapeOutputs, RoomFor, adds, tapeCalls, EveryTapeWritten}
 use Rattle.call_lists.proofs.Refusals.{WriterPassed}
 use Rattle.call_lists.proofs.WriterReached.{WriterReached, fresh-writer-reached}
 use Rattle.call_lists.proofs.WriterAccepts.{machine-passed, comesTo, accepted-work}
@@ -45,10 +45,11 @@ module _ (w : PlainWriter) (c : WriterCall) (h : HasRun w) (p : WriterPassed w c
 
 -- ## The list
 
--- what calls from the writer w come to: it is finished, and these starts and tickets were accepted
+-- what calls from the writer w come to: all are accepted, it is finished, and these starts and tickets were accepted
 abbrev Comes : PlainWriter → List WriterCall → List Started → List Ticket → Type 0
 Comes w cs ss ts =
-    (handedOn writerCall w cs .phase ≡ Closed) × (writerLog (entries writerCall w cs) .starts ≡ ss) × (writerLog (entries writerCall w cs) .tickets ≡ ts)
+    AllAccepted (entries writerCall w cs) × (handedOn writerCall w cs .phase ≡ Closed)
+    × (writerLog (entries writerCall w cs) .starts ≡ ss) × (writerLog (entries writerCall w cs) .tickets ≡ ts)
 
 -- a call that passes, before others
 first : (w : PlainWriter) (c : WriterCall) (cs : List WriterCall) (ss : List Started) (ts : List Ticket) (a : Work)
@@ -56,59 +57,62 @@ first : (w : PlainWriter) (c : WriterCall) (cs : List WriterCall) (ss : List Sta
 unfolding entries handedOn writerLog
 first w c cs ss ts a h p e rest =
     subst (λ (o : Outcome PlainWriter Work).
-    (handedOn writerCall (o .next) cs .phase ≡ Closed)
+    (((x : Work) × (o .answer ≡ done x)) × AllAccepted (entries writerCall (o .next) cs))
+    × (handedOn writerCall (o .next) cs .phase ≡ Closed)
     × ((ifAccepted (o .answer) (startOf c) ++ writerLog (entries writerCall (o .next) cs) .starts) ≡ startOf c ++ ss)
     × ((ifAccepted (o .answer) (ticketsOf c) ++ writerLog (entries writerCall (o .next) cs) .tickets) ≡ ticketsOf c ++ ts))
-    (sym (comes w c h p)) (rw e (rest .0, ap (_++_ (startOf c)) (rest .1), ap (_++_ (ticketsOf c)) (rest .2)))
+    (sym (comes w c h p)) (((a, e), rest .0), rest .1, rw e (ap (_++_ (startOf c)) (rest .2)), rw e (ap (_++_ (ticketsOf c)) (rest .3)))
 
-module _ (out : List ℕ) (room : tagLength ≤ length out) where
-  -- from an open writer with room for the tickets left
-  from-open : (w : PlainWriter) (ts : List Ticket) → HasRun w → w .phase ≡ Open → Valid ts → w .tickets + length ts ≤ ticketLimit
-      → Comes w (adds ts out ++ (finish out ∷ [])) [] ts
-  unfolding entries handedOn writerLog startOf ticketsOf phaseAllows keyRight headRight ticketRight tapeFull outputShort machineWork wrote answered
-  from-open w [] h o v l =
-      let p : WriterPassed w (finish out) = record { phase = rw o; key = refl; head = refl; ticket = refl; full = refl; output = le-ltb (length out) tagLength room } in
-      first w (finish out) [] [] [] _ h p refl (refl, refl, refl)
-  from-open w (t ∷ ts) h o v l =
-      let p : WriterPassed w (add t out) = record {
-        phase = rw o;
-        key = refl;
-        head = refl;
-        ticket = v .0;
-        full = lt-leb ticketLimit (w .tickets) (omega arith);
-        output = le-ltb (length out) ticketLength (omega arith);
-      } in
-      let rest = from-open (comesTo w (add t out) .next) ts (runs-on w (add t out) h p) refl (v .1) (omega arith) in
-      first w (add t out) (adds ts out ++ (finish out ∷ [])) [] ts _ h p refl rest
+-- from an open writer with room for the tickets left
+from-open : (w : PlainWriter) (ts : List Ticket) (outs : ℕ → List ℕ) (out : List ℕ) → HasRun w → w .phase ≡ Open → Valid ts → w .tickets + length ts ≤ ticketLimit
+    → ((i : ℕ) → i < length ts → ticketLength ≤ length (outs i)) → tagLength ≤ length out → Comes w (adds ts outs ++ (finish out ∷ [])) [] ts
+unfolding entries handedOn writerLog startOf ticketsOf phaseAllows keyRight headRight ticketRight tapeFull outputShort machineWork wrote answered
+from-open w [] outs out h o v l rooms room =
+    let p : WriterPassed w (finish out) = record { phase = rw o; key = refl; head = refl; ticket = refl; full = refl; output = le-ltb (length out) tagLength room } in
+    first w (finish out) [] [] [] _ h p refl (tt, refl, refl, refl)
+from-open w (t ∷ ts) outs out h o v l rooms room =
+    let c : WriterCall = add t (outs 0) in
+    let p : WriterPassed w c = record {
+      phase = rw o;
+      key = refl;
+      head = refl;
+      ticket = v .0;
+      full = lt-leb ticketLimit (w .tickets) (omega arith);
+      output = le-ltb (length (outs 0)) ticketLength (rooms 0 (omega arith));
+    } in
+    let rest = from-open (comesTo w c .next) ts (λ i. outs (suc i)) out (runs-on w c h p) refl (v .1) (omega arith) (λ i k. rooms (suc i) (omega arith)) room in
+    first w c (adds ts (λ i. outs (suc i)) ++ (finish out ∷ [])) [] ts _ h p refl rest
 
-  from-fresh : (key : List ℕ) (head : Head) (ts : List Ticket) → length key ≡ keyLength → headRule head ≡ true → Valid ts → length ts ≤ ticketLimit
-      → Comes freshWriter (tapeCalls key head ts out) (record { key = key; head = head } ∷ []) ts
-  unfolding entries handedOn writerLog startOf ticketsOf freshWriter phaseAllows keyRight headRight ticketRight tapeFull outputShort
-  from-fresh key head ts k r v l =
-      let c : WriterCall = start key head out in
-      let h : HasRun freshWriter = (_, fresh-writer-reached) in
-      let p : WriterPassed freshWriter c = record {
-        phase = refl;
-        key = eq-eqb (length key) keyLength k;
-        head = r;
-        ticket = refl;
-        full = refl;
-        output = le-ltb (length out) headLength (omega arith);
-      } in
-      let rest = from-open (comesTo freshWriter c .next) ts (runs-on freshWriter c h p) refl v (omega arith) in
-      first freshWriter c (adds ts out ++ (finish out ∷ [])) [] ts _ h p refl rest
+from-fresh : (key : List ℕ) (head : Head) (ts : List Ticket) (outs : TapeOutputs)
+    → length key ≡ keyLength → headRule head ≡ true → Valid ts → length ts ≤ ticketLimit → RoomFor (length ts) outs
+    → Comes freshWriter (tapeCalls key head ts outs) (record { key = key; head = head } ∷ []) ts
+unfolding entries handedOn writerLog startOf ticketsOf freshWriter phaseAllows keyRight headRight ticketRight tapeFull outputShort
+from-fresh key head ts outs k r v l room =
+    let c : WriterCall = start key head (outs .head) in
+    let h : HasRun freshWriter = (_, fresh-writer-reached) in
+    let p : WriterPassed freshWriter c = record {
+      phase = refl;
+      key = eq-eqb (length key) keyLength k;
+      head = r;
+      ticket = refl;
+      full = refl;
+      output = le-ltb (length (outs .head)) headLength (room .head);
+    } in
+    let rest = from-open (comesTo freshWriter c .next) ts (outs .ticket) (outs .tag) (runs-on freshWriter c h p) refl v (omega arith) (room .ticket) (room .tag) in
+    first freshWriter c (adds ts (outs .ticket) ++ (finish (outs .tag) ∷ [])) [] ts _ h p refl rest
 
 -- ## The claim
 
 pub every-tape-written : EveryTapeWritten
-every-tape-written key head ts out k r v l room =
-    let c = from-fresh out room key head ts k r v l in
-    let t = writer-lists .tape (tapeCalls key head ts out) (c .0) in
-    let e : _≡_ {A = List Started} (t .0 ∷ []) (record { key = key; head = head } ∷ []) = sym (t .1) ∙ c .1 in
+every-tape-written key head ts outs k r v l room =
+    let c = from-fresh key head ts outs k r v l room in
+    let t = writer-lists .tape (tapeCalls key head ts outs) (c .1) in
+    let e : _≡_ {A = List Started} (t .0 ∷ []) (record { key = key; head = head } ∷ []) = sym (t .1) ∙ c .2 in
     let s : t .0 ≡ record { key = key; head = head } = cc in
     record {
-      closed = c .0;
-      starts = c .1;
-      tickets = c .2;
-      written = t .2 ∙ ap (λ (x : Started). tapeOf (x .key) (x .head) (writerLogFrom (tapeCalls key head ts out) .tickets)) s ∙ ap (tapeOf key head) (c .2);
+      accepted = c .0;
+      closed = c .1;
+      starts = c .2;
+      tickets = c .3;
+      written = t .2 ∙ ap (λ (x : Started). tapeOf (x .key) (x .head) (writerLogFrom (tapeCalls key head ts outs) .tickets)) s ∙ ap (tapeOf key head) (c .3);
     }

@@ -2,7 +2,7 @@
 use mathlib.Core.Path.{_≡_}
 use mathlib.Core.Bool.{true}
 use mathlib.Core.List.{List, [], _∷_, _++_}
-use Prim.Native.Nat.{ℕ, _+_, _≤_}
+use Prim.Native.Nat.{ℕ, suc, _+_, _≤_, _<_}
 use lib.ListN.{length}
 use Rattle.acorn_model.specs.declared.Kind.the-variants.{Sealing}
 use Rattle.acorn_model.specs.Calls.{done, Work, Entry, entries, handedOn}
@@ -12,7 +12,7 @@ use Rattle.acorn_model.specs.Lists.{logOf}
 use Rattle.tape_model.specs.declared.Ticket.{Ticket}
 use Rattle.tape_model.specs.declared.Head.{Head}
 use Rattle.tape_model.specs.declared.WriterPhase.the-variants.{Closed}
-use Rattle.tape_model.specs.Ticket.{headRule}
+use Rattle.tape_model.specs.Ticket.{ticketLength, headLength, headRule}
 use Rattle.tape_model.specs.Tape.{ticketLimit, tapeOf}
 use Rattle.tape_model.specs.Writer.{PlainWriter, freshWriter, WriterCall, start, add, finish, writerCall}
 use Rattle.tape_model.specs.WriterLists.{Started, WriterLog, writerLog, headsOf}
@@ -51,22 +51,35 @@ pub record WriterLists : Type 0 where
 
 -- ## Every tape is written
 
--- the calls that add these tickets, and those that write a tape of them, each over the output out
-abbrev pub adds : List Ticket → List ℕ → List WriterCall
-adds [] out = []
-adds (t ∷ ts) out = add t out ∷ adds ts out
+-- the outputs lent to the calls that write a tape, each as it stands at its call: to start, to the adds by their number from 0, and to finish
+pub record TapeOutputs : Type 0 where
+  pub head : List ℕ
+  pub ticket : ℕ → List ℕ
+  pub tag : List ℕ
 
-abbrev pub tapeCalls : List ℕ → Head → List Ticket → List ℕ → List WriterCall
-tapeCalls key head ts out = start key head out ∷ (adds ts out ++ (finish out ∷ []))
+-- each of them is long enough, on a tape of n tickets
+pub record RoomFor (n : ℕ) (outs : TapeOutputs) : Type 0 where
+  pub head : headLength ≤ length (outs .head)
+  pub ticket : (i : ℕ) → i < n → ticketLength ≤ length (outs .ticket i)
+  pub tag : tagLength ≤ length (outs .tag)
 
--- for every key of 16 bytes, head in its ranges and at most 5,000 valid tickets, with room for 16 bytes, these calls are accepted
--- throughout: the writer is finished, was started with that key and head, was given those tickets and has written their tape
-pub record WriterEvery (key : List ℕ) (head : Head) (ts : List Ticket) (out : List ℕ) : Type 0 where
-  pub closed : writerAfter (tapeCalls key head ts out) .phase ≡ Closed
-  pub starts : writerLogFrom (tapeCalls key head ts out) .starts ≡ (record { key = key; head = head } ∷ [])
-  pub tickets : writerLogFrom (tapeCalls key head ts out) .tickets ≡ ts
-  pub written : writerLogFrom (tapeCalls key head ts out) .written ≡ tapeOf key head ts
+-- the calls that add these tickets, and those that write a tape of them
+abbrev pub adds : List Ticket → (ℕ → List ℕ) → List WriterCall
+adds [] outs = []
+adds (t ∷ ts) outs = add t (outs 0) ∷ adds ts (λ i. outs (suc i))
+
+abbrev pub tapeCalls : List ℕ → Head → List Ticket → TapeOutputs → List WriterCall
+tapeCalls key head ts outs = start key head (outs .head) ∷ (adds ts (outs .ticket) ++ (finish (outs .tag) ∷ []))
+
+-- for every key of 16 bytes, head in its ranges and at most 5,000 valid tickets, with outputs long enough, each of these calls is accepted: the
+-- writer is finished, was started with that key and head, was given those tickets and has written their tape
+pub record WriterEvery (key : List ℕ) (head : Head) (ts : List Ticket) (outs : TapeOutputs) : Type 0 where
+  pub accepted : AllAccepted (entries writerCall freshWriter (tapeCalls key head ts outs))
+  pub closed : writerAfter (tapeCalls key head ts outs) .phase ≡ Closed
+  pub starts : writerLogFrom (tapeCalls key head ts outs) .starts ≡ (record { key = key; head = head } ∷ [])
+  pub tickets : writerLogFrom (tapeCalls key head ts outs) .tickets ≡ ts
+  pub written : writerLogFrom (tapeCalls key head ts outs) .written ≡ tapeOf key head ts
 
 abbrev pub EveryTapeWritten : Type 0
-EveryTapeWritten = (key : List ℕ) (head : Head) (ts : List Ticket) (out : List ℕ)
-    → length key ≡ keyLength → headRule head ≡ true → Valid ts → length ts ≤ ticketLimit → tagLength ≤ length out → WriterEvery key head ts out
+EveryTapeWritten = (key : List ℕ) (head : Head) (ts : List Ticket) (outs : TapeOutputs)
+    → length key ≡ keyLength → headRule head ≡ true → Valid ts → length ts ≤ ticketLimit → RoomFor (length ts) outs → WriterEvery key head ts outs

@@ -11,4 +11,4 @@ pub mod SessionExamples
 pub mod WriterExamples
 pub mod MessageExamples
 pub mod Examples
-pub mod EveryTape
+pub mod Tapes

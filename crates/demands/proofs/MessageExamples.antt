@@ -15,11 +15,13 @@ use Rattle.acorn_model.specs.Message.{resultOf, tagMatches, tagRefusal, openRef
 use Rattle.acorn_model.specs.Laws.{WithinLimits}
 use Rattle.acorn_model.proofs.SameBytes.{same-bytes-true}
 use Rattle.acorn_model.proofs.Messages.{open-passed}
+use Rattle.tape_model.specs.declared.OpenedTape.{OpenedTape}
+use Rattle.tape_model.specs.declared.OpenedTape.the-variants.{Refused as TapeRefused, Done as TapeDone}
 use Rattle.tape_model.specs.Ticket.{packHead, unpackHead}
-use Rattle.tape_model.specs.Tape.{ticketsLength, tapeLength, openTape}
+use Rattle.tape_model.specs.Tape.{ticketsLength, Totals, tapeLength, openTape, openedReply}
 use Rattle.tape_model.specs.Tape as tape
 use Rattle.demands.specs.Messages.{Seals, OpensTo}
-use Rattle.demands.specs.Examples.{someHead, MessageExamples, TapeSeven}
+use Rattle.demands.specs.Examples.{someHead, MessageExamples, OpeningReplies, TapeSeven}
 
 writtenOf : Reply ℕ → Written
 writtenOf (refused n) = Refused n
@@ -67,6 +69,20 @@ module _ (key nonce «data» : List ℕ) where
   message-examples = record { seals = seals; opens = opens; seven = seven }
 
 -- ## Tapes
+
+openedOf : Reply Totals → OpenedTape
+openedOf (refused n) = TapeRefused n
+openedOf (done t) = TapeDone (t .tickets) (t .net)
+
+opened-so : (a : Reply Totals) → openedReply (openedOf a) ≡ a
+unfolding openedReply openedOf
+opened-so (refused n) = refl
+opened-so (done t) = refl
+
+pub opening-replies : OpeningReplies
+opening-replies key t out =
+    let o = openTape key t out in
+    (openedOf (o .answer), o .out, λ i. record { answer = sym (opened-so (o .answer)) i; out = o .out })
 
 pub tape-seven : TapeSeven
 unfolding openTape resultOf unlessRefused tape.openRefusal tapeLength ticketsLength unpackHead packHead

@@ -16,6 +16,7 @@ use Rattle.acorn_model.specs.Laws.{WithinLimits}
 use Rattle.acorn_model.specs.Lists.{logOf, Ended, Alike}
 use Rattle.tape_model.specs.declared.Ticket.{Ticket}
 use Rattle.tape_model.specs.declared.Head.{Head}
+use Rattle.tape_model.specs.declared.OpenedTape.{OpenedTape}
 use Rattle.tape_model.specs.declared.WriterPhase.the-variants.{Closed}
 use Rattle.tape_model.specs.Ticket.{ticketLength, headLength, packHead}
 use Rattle.tape_model.specs.Tape.{nonceOf, openTape}
@@ -30,6 +31,7 @@ use Rattle.tape.specs.declared.WriterReply.{WriterReply}
 use Rattle.tape.specs.Contracts.{writerOf, WriterCalled}
 use Rattle.demands.specs.Sessions.{SessionList}
 use Rattle.demands.specs.Writers.{WriterList}
+use Rattle.demands.specs.Refusals.{OpensTape}
 use Rattle.demands.specs.Messages.{Seals, OpensTo}
 
 -- ## Every call, and every list of calls
@@ -145,6 +147,10 @@ pub record MessageExamples (key nonce «data» : List ℕ) : Type 0 where
 
 -- ## Tapes
 
+-- no opening of a tape is without an answer
+abbrev pub OpeningReplies : Type 0
+OpeningReplies = (key tape out : List ℕ) → (r : OpenedTape) × (after : List ℕ) × OpensTape key tape out r after
+
 -- 16 bytes behind a head that are not the tag of a tape of no tickets are answered with 7
 abbrev pub TapeSeven : Type 0
 TapeSeven =
@@ -161,4 +167,5 @@ pub record Examples : Type 0 where
   pub of-sessions : SessionExamples
   pub of-writers : WriterExamples
   pub of-messages : (key nonce «data» : List ℕ) → MessageExamples key nonce «data»
+  pub opening-replies : OpeningReplies
   pub of-tapes : TapeSeven

@@ -2,5 +2,6 @@ pub mod Played
 pub mod Sessions
 pub mod Writers
 pub mod Refusals
+pub mod Tapes
 pub mod Messages
 pub mod Examples

@@ -1,23 +1,15 @@
 -- Demand 3 on the tape writer: every list of start, add and finish calls from a fresh writer, refused ones among them.
 use mathlib.Core.Path.{_≡_}
-use mathlib.Core.Bool.{true}
 use mathlib.Core.List.{List, [], _∷_, _++_}
-use Prim.Native.Nat.{ℕ, _≤_}
-use lib.ListN.{length}
 use Rattle.acorn_model.specs.declared.Kind.the-variants.{Sealing}
-use Rattle.acorn_model.specs.Calls.{Reply, done, Work, answerReply, Entry, callsOf, entries, handedOn}
-use Rattle.acorn_model.specs.Stretches.{tagLength}
-use Rattle.acorn_model.specs.Machine.{fresh, keyLength, call}
+use Rattle.acorn_model.specs.Calls.{Work, answerReply, Entry, callsOf, entries, handedOn}
+use Rattle.acorn_model.specs.Machine.{fresh, call}
 use Rattle.acorn_model.specs.Lists.{logOf}
-use Rattle.tape_model.specs.declared.Ticket.{Ticket}
-use Rattle.tape_model.specs.declared.Head.{Head}
 use Rattle.tape_model.specs.declared.WriterPhase.the-variants.{Closed}
-use Rattle.tape_model.specs.Ticket.{headRule}
-use Rattle.tape_model.specs.Tape.{ticketLimit, tapeOf}
+use Rattle.tape_model.specs.Tape.{tapeOf}
 use Rattle.tape_model.specs.Writer.{WriterCall, freshWriter, writerCall}
 use Rattle.tape_model.specs.WriterLists.{Started, writerLog, headsOf}
-use Rattle.tape_model.specs.Laws.{Valid, TapeLaws}
-use Rattle.call_lists.specs.WriterLists.{tapeCalls}
+use Rattle.tape_model.specs.Laws.{TapeLaws}
 use Rattle.tape.specs.declared.Writer.{Writer}
 use Rattle.tape.specs.declared.WriterReply.{WriterReply}
 use Rattle.tape.specs.Contracts.{writerOf, WriterCalled}
@@ -43,11 +35,3 @@ pub record WriterDemand : Type 0 where
   pub tape : (es : List (Entry WriterCall)) (e : Writer) → WriterList es e → writerOf e .phase ≡ Closed
       → (s : Started) × (writerLog es .starts ≡ (s ∷ [])) × (writerLog es .written ≡ tapeOf (s .key) (s .head) (writerLog es .tickets))
       × TapeLaws (s .key) (s .head) (writerLog es .tickets)
-
--- Every list of at most 5,000 valid tickets is written: the writer takes start, an add for each ticket and finish, and what it has written is the
--- tape of that key, that head and these tickets, from which they come back (`WriterDemand.tape`).
-abbrev pub EveryTape : Type 0
-EveryTape = (key : List ℕ) (head : Head) (tickets : List Ticket) (out : List ℕ)
-    → length key ≡ keyLength → headRule head ≡ true → Valid tickets → length tickets ≤ ticketLimit → tagLength ≤ length out
-    → (es : List (Entry WriterCall)) × (e : Writer) × WriterList es e × (callsOf es ≡ tapeCalls key head tickets out) × (writerOf e .phase ≡ Closed)
-    × (writerLog es .tickets ≡ tickets) × (writerLog es .written ≡ tapeOf key head tickets)

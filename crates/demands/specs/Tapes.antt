@@ -1,0 +1,45 @@
+-- Demand 2, "Every list of at most 5,000 valid tickets comes back from its tape": from the writer's calls by way of opening to the reader's calls,
+-- each by the contract of its function and by nothing else.
+use mathlib.Core.Path.{_≡_}
+use mathlib.Core.Bool.{true}
+use mathlib.Core.List.{List}
+use Prim.Native.Nat.{ℕ, _*_, _≤_}
+use lib.ListN.{length, take}
+use denote.Ref.{RefT, now}
+use Rattle.acorn_model.specs.Calls.{done, writtenOver, Entry, callsOf}
+use Rattle.acorn_model.specs.Machine.{keyLength}
+use Rattle.tape_model.specs.declared.Ticket.{Ticket}
+use Rattle.tape_model.specs.declared.Head.{Head}
+use Rattle.tape_model.specs.declared.OpenedTape.{OpenedTape}
+use Rattle.tape_model.specs.Ticket.{ticketLength, headRule}
+use Rattle.tape_model.specs.Tape.{ticketLimit, packTickets, tapeOf, totalNet, openedReply}
+use Rattle.tape_model.specs.Writer.{WriterCall}
+use Rattle.tape_model.specs.WriterLists.{writerLog}
+use Rattle.tape_model.specs.Reader.{atEnd}
+use Rattle.tape_model.specs.Laws.{Valid}
+use Rattle.call_lists.specs.WriterLists.{AllAccepted, TapeOutputs, RoomFor, tapeCalls}
+use Rattle.tape.specs.declared.Writer.{Writer}
+use Rattle.reader.specs.Reading.{HandsOut}
+use Rattle.demands.specs.Writers.{WriterList}
+use Rattle.demands.specs.Refusals.{OpensTape}
+
+-- what calls es of a writer came to, on the tape of this key, head and tickets
+pub record ComesBack (key : List ℕ) (head : Head) (tickets : List Ticket) (es : List (Entry WriterCall)) : Type 0 where
+  -- every call is accepted, and the bytes written over the list are the tape
+  pub accepted : AllAccepted es
+  pub written : writerLog es .written ≡ tapeOf key head tickets
+  -- opening these bytes into an output long enough answers the number of tickets and their total net, and writes the plain bytes
+  pub opened : (out after : List ℕ) (r : OpenedTape) → ticketLength * length tickets ≤ length out → OpensTape key (writerLog es .written) out r after
+      → (openedReply r ≡ done (record { tickets = length tickets; net = totalNet tickets })) × (after ≡ writtenOver (packTickets tickets) out)
+  -- and a reader over what it wrote hands out these tickets in turn, and then is at the end for good
+  pub read : (out after : List ℕ) (r : OpenedTape) → ticketLength * length tickets ≤ length out → OpensTape key (writerLog es .written) out r after
+      → (bytes : RefT (List ℕ)) → now bytes ≡ take (ticketLength * length tickets) after → HandsOut bytes tickets (done atEnd)
+
+-- for every key of 16 bytes, head in its ranges and at most 5,000 valid tickets: start, an add for each ticket and finish, from a fresh writer, each
+-- with an output of its own that is long enough (such calls can be made, and opened: `Examples.writers`, `opening-replies`)
+abbrev pub TicketsComeBack : Type 0
+TicketsComeBack = (key : List ℕ) (head : Head) (tickets : List Ticket)
+    → length key ≡ keyLength → headRule head ≡ true → Valid tickets → length tickets ≤ ticketLimit
+    → (outs : TapeOutputs) → RoomFor (length tickets) outs
+    → (es : List (Entry WriterCall)) (e : Writer) → WriterList es e → callsOf es ≡ tapeCalls key head tickets outs
+    → ComesBack key head tickets es
