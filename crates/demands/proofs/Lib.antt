@@ -1,6 +1,7 @@
 pub mod AsModel
 pub mod Sessions
 pub mod Writers
+pub mod Numbers
 pub mod Refusals
 pub mod Messages
 pub mod Tied

@@ -1,7 +1,7 @@
 -- Whole messages and tapes: every call has an answer, and there are openings that are answered with 7.
 use mathlib.Core.Path.{_≡_, refl, sym, _∙_}
 use mathlib.Core.Bool.{Bool, true, false}
-use mathlib.Core.List.{List, [], _++_}
+use mathlib.Core.List.{List, []}
 use Prim.Native.Nat.{ℕ, _-_}
 use native.Mathlib.Omega.{arith}
 use lib.ListN.{length}
@@ -21,7 +21,7 @@ use Rattle.tape_model.specs.Ticket.{packHead, unpackHead}
 use Rattle.tape_model.specs.Tape.{ticketsLength, Totals, tapeLength, openTape, openedReply}
 use Rattle.tape_model.specs.Tape as tape
 use Rattle.demands.specs.Messages.{Seals, OpensTo}
-use Rattle.demands.specs.Examples.{someHead, MessageExamples, OpeningReplies, TapeSeven}
+use Rattle.demands.specs.Examples.{MessageExamples, OpeningReplies, TapeSeven}
 
 writtenOf : Reply ℕ → Written
 writtenOf (refused n) = Refused n

@@ -1,46 +1,59 @@
 -- Demand 1, from the contracts.
-use mathlib.Core.Path.{_≡_, refl, sym, ap, _∙_}
+use mathlib.Core.Path.{_≡_, refl, sym, ap, _∙_, subst}
 use mathlib.Core.Bool.{Bool, true, false, not, _&&_}
-use mathlib.Core.List.{List, []}
-use Prim.Native.Nat.{ℕ, zero, suc, _*_, _≤_}
+use mathlib.Core.List.{List}
+use Prim.Native.Nat.{ℕ, zero, suc, _*_, _/_, _≤_}
 use native.Mathlib.Omega.{arith}
-use lib.Dec.{ltb, eqb}
-use lib.ListN.{length}
-use borrow.Author.Tests.{eq-eqb, le-ltb}
+use lib.Dec.{leb, ltb, eqb}
+use lib.ListN.{length, take, drop, length-drop}
+use lib.Seq.{length-take-le}
+use borrow.Author.Tests.{leb-false, eq-eqb, le-ltb}
 use Rattle.acorn_model.specs.Bits.{_if_else_}
 use Rattle.acorn_model.specs.Stretches.{tagOf}
 use Rattle.acorn_model.specs.declared.Phase.the-variants.{Closed}
-use Rattle.acorn_model.specs.Calls.{Reply, refused, done, Work, Outcome, accepted, sameBytes, answerReply, unlessRefused, refusedWith}
-use Rattle.acorn_model.specs.Machine.{Machine, Call, begin, dataCall, sealText, checkText, sealClose, checkClose, outputOf, keyLength, refusal, wrote, answered, verdict, textEnded, closed, enter, work, call}
-use Rattle.acorn_model.specs.Lists.{Ended}
-use Rattle.acorn_model.specs.Message.{resultOf, tagMatches}
+use Rattle.acorn_model.specs.Calls.{Reply, refused, done, Work, Outcome, accepted, sameBytes, answerReply, writtenReply, unlessRefused, refusedWith}
+use Rattle.acorn_model.specs.Machine.{Machine, fresh, Call, begin, dataCall, sealText, checkText, sealClose, checkClose, outputOf, keyLength, refusal, wrote, answered, verdict, textEnded, closed, enter, work, call}
+use Rattle.acorn_model.specs.Machine.{work as machineWork}
+use Rattle.acorn_model.specs.Message.{tagMatches}
+use Rattle.acorn_model.specs.Message as message
 use Rattle.tape_model.specs.declared.OpenedTape.{OpenedTape}
-use Rattle.tape_model.specs.Ticket.{ticketLength, unpackHead}
-use Rattle.tape_model.specs.Tape.{nonceOf, isRefused, Totals, tapeLength, headBytes, sealedBytes, ticketCount, openRefusal, openTape, openedReply}
+use Rattle.tape_model.specs.declared.Ticket.{Ticket}
+use Rattle.tape_model.specs.Format.{widths, inRanges, unpack}
+use Rattle.tape_model.specs.Ticket.{form1, ticketLength, ticketOf, valuesRule, packTicketInto, unpackTicket}
+use Rattle.tape_model.specs.Ticket.{headFormat, headLength, headOf, packHeadInto, unpackHead}
+use Rattle.tape_model.specs.Tape.{nonceOf, ticketsLength, isRefused, tapeLength, headBytes, sealedBytes, ticketCount, openRefusal, openTape, openedReply}
 use Rattle.tape_model.specs.Writer.{PlainWriter, WriterCall, start, add, finish, onAnswer, passedOn, started, writerCall}
 use Rattle.tape_model.specs.Writer as plain
-use Rattle.call_lists.proofs.Refusals.{by-number, never-7}
+use Rattle.tape_model.specs.Reader as model
+use Rattle.tape_model.specs.Reader.{Reading, atEnd, ReadOutcome, stays, handedOut, readNext}
+use Rattle.call_lists.proofs.Refusals.{by-number, never-7, writer-passed}
+use Rattle.call_lists.proofs.WriterAccepts.{MachinePassed, machine-passed, comesTo, accepted-work}
 use Rattle.session.specs.declared.Session.{Session}
 use Rattle.session.specs.declared.Reply.{Reply as SessionReply}
-use Rattle.session.specs.Contracts.{machineOf, outcomeOf, wrappedMachine, wrappedReply, wrappedOutcome, Called}
+use Rattle.session.specs.Contracts.{machineOf, outcomeOf, wrapped, wrappedMachine, wrappedReply, wrappedOutcome, Called}
 use Rattle.session.proofs.Wrapping.{within}
 use Rattle.tape.specs.declared.Writer.{Writer}
 use Rattle.tape.specs.declared.WriterReply.{WriterReply}
 use Rattle.tape.specs.Contracts.{writerOf, wrappedWriter, wrappedWriterOutcome, WriterCalled}
 use Rattle.tape.specs.Contracts as tape
-use Rattle.demands.specs.Refusals.{SessionRefusals, WriterRefusals, OpensTape, OpeningRefusals, RefusalDemand}
-
-never : {A : Type 0} {a : A} {n : ℕ} {P : Type 0} → done a ≡ refused n → P
-never {a = a} {n = n} e = let z : _≡_ {A = ℕ} 0 1 = cc in absurd (omega arith)
-
-same-number : (k n : ℕ) → _≡_ {A = Reply Work} (refused k) (refused n) → k ≡ n
-same-number k n e = cc
+use Rattle.reader.specs.declared.Reader.{Reader}
+use Rattle.reader.specs.declared.Handed.{Handed}
+use Rattle.reader.specs.Contracts.{readerOf, NextCalled}
+use Rattle.reader.specs.Contracts as reader
+use Rattle.ticket.proofs.Summing.{refused-by-8}
+use Rattle.demands.specs.Refusals.{AnsweredBy, tagDiffers, sessionNumber, Counts64, SessionRefusals, WriterRefusals, OpensTape, OpeningRefusals, readerNumber, ReaderRefusals, RefusalDemand}
+use Rattle.demands.proofs.Numbers.{never, same-number, accepted-by, refused-by, by-cases, chain, refused-as}
+use Rattle.demands.proofs.Writers.{HasRun, has-run}
 
 -- counting in 64 bits does not touch a refusal
 still-refused : (a : Reply Work) (n : ℕ) → wrappedReply a ≡ refused n → a ≡ refused n
 unfolding wrappedReply
 still-refused (refused k) n e = e
 still-refused (done w) n e = never e
+
+goes-round : (n : ℕ) → Counts64 (wrapped n)
+unfolding wrapped
+goes-round n = omega arith
 
 -- ## The machine
 
@@ -75,14 +88,27 @@ seven-call m c e =
     (λ z k. let j = work-refused m c 7 k in (j .1, j .2))
     (λ z k. absurd (never-7 m c (same-number (refusal m c) 7 k))) e
 
-number-call : (m : Machine) (c : Call) (n : ℕ) → refusal m c ≡ suc n → call m c .answer ≡ refused (suc n)
-unfolding call unlessRefused refusedWith
-number-call m c n e = rw e
+-- what a working call answers goes by its tag
+work-number : (m : Machine) (c : Call) → AnsweredBy (7 if tagDiffers m c else accepted) (wrappedReply (work m c .answer))
+unfolding work wrote answered wrappedReply verdict
+work-number m (begin key nonce) = accepted-by _
+work-number m (dataCall piece) = accepted-by _
+work-number m (sealText piece out) = accepted-by _
+work-number m (checkText piece) = accepted-by _
+work-number m (sealClose out) = accepted-by _
+work-number m (checkClose tag) = by (sameBytes tag (tagOf (textEnded m .state)))
+  where
+    by : (b : Bool) → AnsweredBy (7 if not b else accepted) (wrappedReply (verdict b (closed m)))
+    by true = accepted-by _
+    by false = refused-by 6
 
-mismatch-call : (m : Machine) (c : Call) (tag : List ℕ) → c ≡ checkClose tag → refusal m c ≡ accepted → sameBytes tag (tagOf (textEnded m .state)) ≡ false → call m c .answer ≡ refused 7
-unfolding call unlessRefused
-mismatch-call m c tag e n d =
-    ap (λ (x : ℕ). unlessRefused x (work m c) (refusedWith x m (outputOf c)) .answer) n ∙ ap (λ (x : Call). work m x .answer) e ∙ (unfold work verdict in ap (λ (b : Bool). verdict b (closed m)) d)
+number-call : (m : Machine) (c : Call) → AnsweredBy (sessionNumber m c) (wrappedReply (call m c .answer))
+unfolding call unlessRefused refusedWith wrappedReply
+number-call m c = from (refusal m c)
+  where
+    from : (n : ℕ) → AnsweredBy (unlessRefused n (7 if tagDiffers m c else accepted) n) (wrappedReply (unlessRefused n (work m c) (refusedWith n m (outputOf c)) .answer))
+    from zero = work-number m c
+    from (suc n) = refused-by n
 
 session-refusals : (s : Session) (c : Call) (r : SessionReply) (out : List ℕ) (h : Called s c r out) → SessionRefusals s c r out h
 unfolding outcomeOf wrappedOutcome wrappedReply wrappedMachine
@@ -92,14 +118,14 @@ session-refusals s c r out h =
     let next : machineOf (r .session) ≡ wrappedMachine (call m c .next) = λ i. h i .next in
     let left : out ≡ call m c .out = λ i. h i .out in
     record {
-      number = λ n e. answer ∙ ap wrappedReply (number-call m c n e);
+      number = subst (AnsweredBy (sessionNumber m c)) (sym answer) (number-call m c);
       unchanged = λ n small e ne.
           let u = refused-call m c n (still-refused (call m c .answer) n (sym answer ∙ e)) ne in
           (next ∙ ap wrappedMachine (u .0) ∙ within m small, left ∙ u .1);
-      mismatch = λ tag e n d. answer ∙ ap wrappedReply (mismatch-call m c tag e n d);
       seven = λ e.
           let u = seven-call m c (still-refused (call m c .answer) 7 (sym answer ∙ e)) in
           (ap (λ (x : Machine). x .phase) next ∙ u .0, left ∙ u .1);
+      count = subst (λ (x : Machine). Counts64 (x .counts .steps)) (sym next) (goes-round (call m c .next .counts .steps));
     }
 
 -- ## The plain writer
@@ -128,8 +154,26 @@ writer-number : (w : PlainWriter) (c : WriterCall) (n : ℕ) → plain.refusal w
 unfolding writerCall unlessRefused refusedWith
 writer-number w c n e = rw e
 
+-- a writer that calls led to answers an accepted call with what it did
+exactly-call : (w : PlainWriter) (c : WriterCall) → HasRun w → AnsweredBy (plain.refusal w c) (writerCall w c .answer)
+unfolding writerCall unlessRefused machineWork wrote answered
+exactly-call w c h =
+    by-cases (plain.refusal w c) (writerCall w c .answer)
+    (λ e. let q = machine-passed w (h .log) c (h .reached) (writer-passed w c e) in done-by c q (rw e (accepted-work w c q)))
+    (writer-number w c)
+  where
+    done-by : (c : WriterCall) → MachinePassed w c → writerCall w c ≡ comesTo w c → (a : Work) × (writerCall w c .answer ≡ done a)
+    done-by (start key head out) q e = (_, ap (λ (o : Outcome PlainWriter Work). o .answer) e)
+    done-by (add ticket out) q e = (_, ap (λ (o : Outcome PlainWriter Work). o .answer) e)
+    done-by (finish out) q e = (_, ap (λ (o : Outcome PlainWriter Work). o .answer) e)
+
+wrapped-number : (n : ℕ) (a : Reply Work) → AnsweredBy n a → AnsweredBy n (wrappedReply a)
+unfolding wrappedReply
+wrapped-number n (refused k) h = h
+wrapped-number n (done w) h = by-cases n _ (λ e. (_, refl)) (λ k e. never (h .refuses k .1 e))
+
 writer-refusals : (w : Writer) (c : WriterCall) (r : WriterReply) (out : List ℕ) (h : WriterCalled w c r out) → WriterRefusals w c r out h
-unfolding tape.outcomeOf wrappedWriterOutcome wrappedWriter wrappedReply
+unfolding tape.outcomeOf wrappedWriterOutcome wrappedWriter wrappedReply wrappedMachine
 writer-refusals w c r out h =
     let p = writerOf w in
     let answer : answerReply (r .answer) ≡ wrappedReply (writerCall p c .answer) = λ i. h i .answer in
@@ -137,21 +181,14 @@ writer-refusals w c r out h =
     let left : out ≡ writerCall p c .out = λ i. h i .out in
     record {
       number = λ n e. answer ∙ ap wrappedReply (writer-number p c n e);
+      exactly = λ es l. subst (AnsweredBy (plain.refusal p c)) (sym answer) (wrapped-number (plain.refusal p c) _ (exactly-call p c (has-run es w l)));
       unchanged = λ n small e.
           let u = writer-unchanged p c n (still-refused (writerCall p c .answer) n (sym answer ∙ e)) in
           (next ∙ ap wrappedWriter (u .0) ∙ (λ i. record { machine = within (p .machine) small i; phase = p .phase; tickets = p .tickets }), left ∙ u .1);
+      count = subst (λ (x : PlainWriter). Counts64 (x .machine .counts .steps)) (sym next) (goes-round (writerCall p c .next .machine .counts .steps));
     }
 
 -- ## Tapes
-
-result-refused : (k : ℕ) (a : Totals) (written out : List ℕ) (n : ℕ) → resultOf k a written out .answer ≡ refused n → resultOf k a written out .out ≡ out
-unfolding resultOf unlessRefused
-result-refused zero a written out n e = never e
-result-refused (suc k) a written out n e = refl
-
-result-number : (k : ℕ) (a : Totals) (written out : List ℕ) (n : ℕ) → k ≡ suc n → resultOf k a written out .answer ≡ refused (suc n)
-unfolding resultOf unlessRefused
-result-number k a written out n e = rw e
 
 -- past the tests of 2, 3 and 6, a differing tag is 7
 only-7 : (a b c d : Bool) (rest : ℕ) → a ≡ true → b ≡ false → c ≡ false → d ≡ false → (2 if not a else 3 if b else 6 if c else 7 if not d else rest) ≡ 7
@@ -168,18 +205,67 @@ tape-seven key tape out k l h room m =
 opening-refusals : (key tape out after : List ℕ) (r : OpenedTape) (h : OpensTape key tape out r after) → OpeningRefusals key tape out after r h
 unfolding openTape
 opening-refusals key tape out after r h =
+    let x = refused-as (openRefusal key tape out) _ _ out (openedReply r) after h in
     record {
-      number = λ n e. sym (λ i. h i .answer) ∙ result-number (openRefusal key tape out) _ _ out n e;
-      unchanged = λ n e. sym (λ i. h i .out) ∙ result-refused (openRefusal key tape out) _ _ out n ((λ i. h i .answer) ∙ e);
-      seven = λ k l p room m. sym (λ i. h i .answer) ∙ result-number (openRefusal key tape out) _ _ out 6 (tape-seven key tape out k l p room m);
+      number = x .number;
+      unchanged = x .unchanged;
+      seven = λ k l p room m. x .number .refuses 6 .1 (tape-seven key tape out k l p room m);
     }
 
+-- ## Readers
+
+-- what the reader comes to goes by the number, and stays where it is refused
+abbrev Reads : ℕ → model.Reader → ReadOutcome → Type 0
+Reads n r o = AnsweredBy n (o .answer) × ((k : ℕ) → o .answer ≡ refused k → o .next ≡ r)
+
+module _ (r : model.Reader) where
+  abbrev ahead : List ℕ
+  ahead = take ticketLength (drop (ticketLength * r .position) (r .string))
+
+  handed : (t : Reply Ticket) → ((n : ℕ) → refused n ≡ t → n ≡ 8) → Reads (8 if isRefused t else accepted) r (handedOut t r)
+  unfolding handedOut
+  handed (refused n) h = (subst (λ (k : ℕ). AnsweredBy {A = Reading} 8 (refused k)) (sym (h n refl)) (refused-by 7), λ k e. refl)
+  handed (done t) h = (accepted-by _, λ k e. never e)
+
+  by-tests : (a b : Bool) → leb (length (r .string) / ticketLength) (r .position) ≡ b
+      → Reads (2 if not a else accepted if b else 8 if isRefused (unpackTicket ahead) else accepted) r
+      (stays r (refused 2) if not a else stays r (done atEnd) if b else handedOut (unpackTicket ahead) r)
+  by-tests false b e = (refused-by 1, λ k h. refl)
+  by-tests true true e = (accepted-by _, λ k h. never h)
+  by-tests true false e =
+      let here = leb-false (length (r .string) / ticketLength) (r .position) e in
+      handed (unpackTicket ahead)
+      (λ n u. refused-by-8 ahead n (length-take-le ticketLength (drop (ticketLength * r .position) (r .string)) (simp length-drop (omega arith))) u)
+
+  reads : Reads (readerNumber r) r (readNext r)
+  unfolding readNext
+  reads = by-tests (ticketsLength (length (r .string))) _ refl
+
+reader-refusals : (r : Reader) (h : Handed) (called : NextCalled r h) → ReaderRefusals r h called
+unfolding reader.outcomeOf
+reader-refusals r h called =
+    let x = subst (Reads (readerNumber (readerOf r)) (readerOf r)) (sym (called .outcome)) (reads (readerOf r)) in
+    record { number = x .0; unchanged = x .1 }
+
 pub refusal-demand : RefusalDemand
+unfolding message.sealMessage message.openMessage packTicketInto packHeadInto unpackTicket unpackHead
 refusal-demand =
     record {
       sessions = session-refusals;
+      fresh-count = λ s kind e. subst (λ (m : Machine). Counts64 (m .counts .steps)) (sym e) (unfold fresh in omega arith);
       writers = writer-refusals;
+      sealing = λ key nonce d text out after r h. refused-as _ _ _ out (writtenReply r) after h;
+      opening = λ key nonce d s out after r h. refused-as _ _ _ out (writtenReply r) after h;
       openings = opening-refusals;
       sevens-alike = λ key key′ tape tape′ out after after′ r r′ h h′ e e′.
           opening-refusals key tape out after r h .unchanged 7 e ∙ sym (opening-refusals key′ tape′ out after′ r′ h′ .unchanged 7 e′);
+      readers = reader-refusals;
+      packing = λ t out after r h. refused-as _ _ _ out (writtenReply r) after h;
+      packing-heads = λ h out after r e. refused-as _ _ _ out (writtenReply r) after e;
+      unpacking = λ string r e.
+          let vs = unpack (widths form1) string in
+          subst (AnsweredBy _) (sym e) (chain (not (eqb (length string) ticketLength)) (not (valuesRule vs)) 1 7 (ticketOf vs));
+      unpacking-heads = λ string r e.
+          let vs = unpack (widths headFormat) string in
+          subst (AnsweredBy _) (sym e) (chain (not (eqb (length string) headLength)) (not (inRanges headFormat vs)) 1 2 (headOf vs));
     }

@@ -1,5 +1,5 @@
 -- Demands 3 and 2 on sessions, from the contracts of the methods and from what the machine is after a list.
-use mathlib.Core.Path.{_≡_, refl, sym, ap, ap₂, _∙_, subst}
+use mathlib.Core.Path.{_≡_, refl, sym, ap, _∙_, subst}
 use mathlib.Core.List.{List, [], _∷_, _++_}
 use mathlib.Core.Logic.{_↔_}
 use Prim.Native.Nat.{ℕ}
@@ -9,7 +9,7 @@ use Rattle.acorn_model.specs.declared.Kind.the-variants.{Sealing, Checking}
 use Rattle.acorn_model.specs.Bits.{Bits, AreBytes, bitsIn, bytes}
 use Rattle.acorn_model.specs.Stretches.{tagLength}
 use Rattle.acorn_model.specs.Paper.{newTag}
-use Rattle.acorn_model.specs.Calls.{Reply, refused, done, Work, Outcome, answerReply, Entry, callsOf, entries, handedOn}
+use Rattle.acorn_model.specs.Calls.{refused, done, answerReply, Entry, callsOf, entries, handedOn}
 use Rattle.acorn_model.specs.Machine.{Machine, Call, fresh, call}
 use Rattle.acorn_model.specs.Lists.{Arguments, Log, logOf, Ended, Alike}
 use Rattle.acorn_model.proofs.Proved.{paper-computed}

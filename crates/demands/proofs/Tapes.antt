@@ -1,9 +1,9 @@
 -- Every list of at most 5,000 valid tickets comes back: the writer's calls come to the plain writer's, what these write is the tape, and what opening
 -- and reading a tape give is known of the definitions.
-use mathlib.Core.Path.{_≡_, sym, ap, _∙_, subst}
+use mathlib.Core.Path.{sym, ap, _∙_, subst}
 use mathlib.Core.List.{List}
 use Prim.Native.Nat.{ℕ}
-use Rattle.acorn_model.specs.Calls.{Entry, callsOf, entries}
+use Rattle.acorn_model.specs.Calls.{entries}
 use Rattle.tape_model.specs.Writer.{WriterCall, freshWriter, writerCall}
 use Rattle.tape_model.specs.WriterLists.{WriterLog}
 use Rattle.tape_model.specs.Tape.{openTape}

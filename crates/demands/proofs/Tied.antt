@@ -1,6 +1,7 @@
 -- What a caller learns of each function, as the toolchain reads the contract in the source, is what the demands speak of, and a caller is asked
 -- nothing: the session's and the writer's methods give `Called` and `WriterCalled` at their calls, so that `Played` is made of the contracts and of
--- nothing else; whole messages and tapes are sealed and opened as the definitions say.
+-- nothing else; whole messages and tapes are sealed and opened, and tickets and heads packed and unpacked, as the definitions say. For the reader
+-- `reader/proofs/Tied` shows it.
 use mathlib.Core.Path.{_≡_}
 use mathlib.Core.List.{[]}
 use contract.Lifetimes
@@ -19,7 +20,19 @@ use Rattle.message.proofs.open.Kinds as open-kinds
 use Rattle.message.proofs.open.Reads as open-reads
 use Rattle.tape_model.specs.Writer as plain
 use Rattle.tape.specs.Contracts.{writerOf, WriterCalled}
-use Rattle.demands.specs.Refusals.{OpensTape}
+use Rattle.demands.specs.Refusals.{OpensTape, PacksTicket, PacksHead, UnpacksTicket, UnpacksHead}
+use Rattle.ticket.proofs.pack_ticket as pack-ticket'
+use Rattle.ticket.proofs.pack_ticket.Kinds as pack-ticket-kinds
+use Rattle.ticket.proofs.pack_ticket.Reads as pack-ticket-reads
+use Rattle.ticket.proofs.pack_head as pack-head'
+use Rattle.ticket.proofs.pack_head.Kinds as pack-head-kinds
+use Rattle.ticket.proofs.pack_head.Reads as pack-head-reads
+use Rattle.ticket.proofs.unpack_ticket as unpack-ticket'
+use Rattle.ticket.proofs.unpack_ticket.Kinds as unpack-ticket-kinds
+use Rattle.ticket.proofs.unpack_ticket.Reads as unpack-ticket-reads
+use Rattle.ticket.proofs.unpack_head as unpack-head'
+use Rattle.ticket.proofs.unpack_head.Kinds as unpack-head-kinds
+use Rattle.ticket.proofs.unpack_head.Reads as unpack-head-reads
 use Rattle.tape.proofs.Writer.fresh as writer-fresh'
 use Rattle.tape.proofs.Writer.fresh.Kinds as writer-fresh-kinds
 use Rattle.tape.proofs.Writer.fresh.Reads as writer-fresh-reads
@@ -168,3 +181,35 @@ module _ (κs : Lifetimes.Lfts 3) (a : World.ArgsD open-tape'.signature κs) whe
   open-tape-says : (r : World.ResD open-tape'.signature κs) (x : Clauses.AtExit (Kinds'.endedOf 3 open-tape-kinds.ps open-tape-kinds.r) κs) → open-tape-reads.Learnt κs a r x
       → OpensTape (now (a .0)) (now (a .1 .0)) (now (a .1 .1 .0)) r (now (x .1 .1 .0))
   open-tape-says r x h = h
+
+module _ (κs : Lifetimes.Lfts 1) (a : World.ArgsD pack-ticket'.signature κs) where
+  pack-ticket-asks : pack-ticket-reads.Asked κs a
+  pack-ticket-asks = tt
+
+  pack-ticket-says : (r : World.ResD pack-ticket'.signature κs) (x : Clauses.AtExit (Kinds'.endedOf 1 pack-ticket-kinds.ps pack-ticket-kinds.r) κs) → pack-ticket-reads.Learnt κs a r x
+      → PacksTicket (a .0) (now (a .1 .0)) r (now (x .1 .0))
+  pack-ticket-says r x h = h
+
+module _ (κs : Lifetimes.Lfts 1) (a : World.ArgsD pack-head'.signature κs) where
+  pack-head-asks : pack-head-reads.Asked κs a
+  pack-head-asks = tt
+
+  pack-head-says : (r : World.ResD pack-head'.signature κs) (x : Clauses.AtExit (Kinds'.endedOf 1 pack-head-kinds.ps pack-head-kinds.r) κs) → pack-head-reads.Learnt κs a r x
+      → PacksHead (a .0) (now (a .1 .0)) r (now (x .1 .0))
+  pack-head-says r x h = h
+
+module _ (κs : Lifetimes.Lfts 1) (a : World.ArgsD unpack-ticket'.signature κs) where
+  unpack-ticket-asks : unpack-ticket-reads.Asked κs a
+  unpack-ticket-asks = tt
+
+  unpack-ticket-says : (r : World.ResD unpack-ticket'.signature κs) (x : Clauses.AtExit (Kinds'.endedOf 1 unpack-ticket-kinds.ps unpack-ticket-kinds.r) κs) → unpack-ticket-reads.Learnt κs a r x
+      → UnpacksTicket (now (a .0)) r
+  unpack-ticket-says r x h = h
+
+module _ (κs : Lifetimes.Lfts 1) (a : World.ArgsD unpack-head'.signature κs) where
+  unpack-head-asks : unpack-head-reads.Asked κs a
+  unpack-head-asks = tt
+
+  unpack-head-says : (r : World.ResD unpack-head'.signature κs) (x : Clauses.AtExit (Kinds'.endedOf 1 unpack-head-kinds.ps unpack-head-kinds.r) κs) → unpack-head-reads.Learnt κs a r x
+      → UnpacksHead (now (a .0)) r
+  unpack-head-says r x h = h

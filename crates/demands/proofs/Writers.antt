@@ -1,9 +1,9 @@
 -- Demand 3 on the tape writer, from the contracts of its methods and from what the plain writer is after a list.
-use mathlib.Core.Path.{_≡_, refl, sym, ap, _∙_, subst}
+use mathlib.Core.Path.{_≡_, sym, ap, _∙_, subst}
 use mathlib.Core.List.{List, [], _∷_, _++_}
 use Prim.Native.Nat.{ℕ, _<_, _^_}
 use Rattle.acorn_model.specs.declared.Kind.the-variants.{Sealing}
-use Rattle.acorn_model.specs.Calls.{Reply, Work, Outcome, answerReply, refusedWith, Entry, callsOf, entries, handedOn}
+use Rattle.acorn_model.specs.Calls.{Work, Outcome, answerReply, refusedWith, Entry, callsOf, entries, handedOn}
 use Rattle.acorn_model.specs.Machine.{Machine, fresh, Call, sealText, sealClose, work as machineWork, call}
 use Rattle.acorn_model.specs.Lists.{logOf}
 use Rattle.tape_model.specs.declared.WriterPhase.{WriterPhase}
@@ -17,9 +17,9 @@ use Rattle.call_lists.specs.WriterLists.{writerLogFrom}
 use Rattle.call_lists.proofs.Refusals.{by-number, Passed, works, writer-passed}
 use Rattle.call_lists.proofs.WriterReached.{WriterReached, fresh-writer-reached, writer-small}
 use Rattle.call_lists.proofs.WriterAccepts.{MachinePassed, machine-passed, passedTo, comesTo, accepted-work, startedMachine}
-use Rattle.call_lists.proofs.WriterKept.{writer-kept}
+use Rattle.call_lists.proofs.WriterKept.{writer-kept, writer-reached}
 use Rattle.call_lists.proofs.WriterLists.{writer-lists}
-use Rattle.session.specs.Contracts.{wrapped, wrappedMachine, wrappedReply, wrappedOutcome}
+use Rattle.session.specs.Contracts.{wrapped, wrappedReply, wrappedOutcome}
 use Rattle.session.proofs.Wrapping.{within, call-within}
 use Rattle.tape.specs.declared.Writer.{Writer}
 use Rattle.tape.specs.declared.WriterReply.{WriterReply}
@@ -56,9 +56,9 @@ refused-within n w out h = λ i. record { next = record { machine = within (w .m
 -- ## One call
 
 -- a plain writer that a list of calls led to
-record HasRun (w : PlainWriter) : Type 0 where
-  log : WriterLog
-  reached : WriterReached w log
+pub record HasRun (w : PlainWriter) : Type 0 where
+  pub log : WriterLog
+  pub reached : WriterReached w log
 
 runs-on : (w : PlainWriter) (c : WriterCall) → HasRun w → HasRun (writerCall w c .next)
 runs-on w c h = record { log = _; reached = writer-kept w c (h .log) (h .reached) }
@@ -89,6 +89,10 @@ module _ (es : List (Entry WriterCall)) (e : Writer) (l : WriterList es e) where
       subst (λ (w : PlainWriter). (es ≡ entries writerCall w (callsOf es)) × (writerOf e ≡ handedOn writerCall w (callsOf es))) (l .isFresh)
       (as-model (λ (r : WriterReply). r .writer) (λ (r : WriterReply). answerReply (r .answer)) WriterCalled writerCall writerOf HasRun says runs-on (l .first) e es
       (subst HasRun (sym (l .isFresh)) (record { log = _; reached = fresh-writer-reached })) (l .played))
+
+  -- the writer that they led to is such a one
+  pub has-run : HasRun (writerOf e)
+  has-run = subst HasRun (sym (as-plain .1)) (record { log = _; reached = writer-reached (callsOf es) })
 
   pub same-log : writerLogFrom (callsOf es) ≡ writerLog es
   same-log = ap writerLog (sym (as-plain .0))

@@ -1,68 +1,167 @@
--- Demand 1: what a refused call answers and leaves.
+-- Demand 1: which number a call ends with, and what a refused call leaves.
 use mathlib.Core.Path.{_≡_}
-use mathlib.Core.Bool.{true, false}
+use mathlib.Core.Bool.{Bool, true, false, not}
 use mathlib.Core.List.{List}
-use Prim.Native.Nat.{ℕ, suc, _*_, _≤_, _<_, _^_}
-use lib.ListN.{length}
+use mathlib.Core.Logic.{_↔_}
+use Prim.Native.Nat.{ℕ, suc, _*_, _/_, _≤_, _<_, _^_}
+use lib.Dec.{leb, ltb, eqb}
+use lib.ListN.{length, take, drop}
+use Rattle.acorn_model.specs.declared.Kind.{Kind}
+use Rattle.acorn_model.specs.declared.Written.{Written}
+use Rattle.acorn_model.specs.Bits.{_if_else_}
 use Rattle.acorn_model.specs.Stretches.{tagOf}
-use Rattle.acorn_model.specs.Calls.{refused, accepted, sameBytes, answerReply}
-use Rattle.acorn_model.specs.Machine.{Call, checkClose, outputOf, keyLength, refusal, textEnded}
+use Rattle.acorn_model.specs.Calls.{Reply, refused, done, accepted, unlessRefused, sameBytes, answerReply, writtenReply, Entry}
+use Rattle.acorn_model.specs.Machine.{Machine, fresh, Call, begin, dataCall, sealText, checkText, sealClose, checkClose, outputOf, keyLength, refusal, textEnded}
 use Rattle.acorn_model.specs.Lists.{Ended}
-use Rattle.acorn_model.specs.Message.{tagMatches}
+use Rattle.acorn_model.specs.Message as message
+use Rattle.tape_model.specs.declared.Ticket.{Ticket}
+use Rattle.tape_model.specs.declared.Head.{Head}
+use Rattle.tape_model.specs.declared.UnpackedTicket.{UnpackedTicket}
+use Rattle.tape_model.specs.declared.UnpackedHead.{UnpackedHead}
 use Rattle.tape_model.specs.declared.OpenedTape.{OpenedTape}
-use Rattle.tape_model.specs.Ticket.{ticketLength, unpackHead}
-use Rattle.tape_model.specs.Tape.{nonceOf, isRefused, tapeLength, headBytes, sealedBytes, ticketCount, openRefusal, openTape, openedReply}
+use Rattle.tape_model.specs.Format.{widths, inRanges, unpack}
+use Rattle.tape_model.specs.Ticket.{form1, ticketLength, valuesRule, ticketRule, packTicketInto, unpackTicket, ticketReply}
+use Rattle.tape_model.specs.Ticket.{headFormat, headLength, headRule, packHeadInto, unpackHead, headReply}
+use Rattle.tape_model.specs.Tape.{nonceOf, ticketsLength, isRefused, tapeLength, headBytes, sealedBytes, ticketCount, openRefusal, openTape, openedReply}
 use Rattle.tape_model.specs.Writer.{WriterCall}
 use Rattle.tape_model.specs.Writer as plain
+use Rattle.tape_model.specs.Reader as model
+use Rattle.tape_model.specs.Reader.{nextReply}
 use Rattle.session.specs.declared.Session.{Session}
 use Rattle.session.specs.declared.Reply.{Reply as SessionReply}
 use Rattle.session.specs.Contracts.{machineOf, Called}
 use Rattle.tape.specs.declared.Writer.{Writer}
 use Rattle.tape.specs.declared.WriterReply.{WriterReply}
 use Rattle.tape.specs.Contracts.{writerOf, WriterCalled}
+use Rattle.reader.specs.declared.Reader.{Reader}
+use Rattle.reader.specs.declared.Handed.{Handed}
+use Rattle.reader.specs.Contracts.{readerOf, NextCalled}
+use Rattle.demands.specs.Messages.{Seals, OpensTo}
+use Rattle.demands.specs.Writers.{WriterList}
 
--- a count of steps that a session can hold
+-- ## Numbers
+
+-- "The smallest number that applies is given, and only then" (document 01), where n is that number, or 0 if none applies: the answer is the number k
+-- exactly where n is k, and the call is accepted exactly where none applies
+pub record AnsweredBy {A : Type 0} (n : ℕ) (answer : Reply A) : Type 0 where
+  pub refuses : (k : ℕ) → (answer ≡ refused (suc k)) ↔ (n ≡ suc k)
+  pub accepts : ((a : A) × (answer ≡ done a)) ↔ (n ≡ accepted)
+
+-- and a refused call leaves `after` in the output that was `out`
+pub record RefusedBy {A : Type 0} (n : ℕ) (answer : Reply A) (out after : List ℕ) : Type 0 where
+  pub number : AnsweredBy n answer
+  pub unchanged : (k : ℕ) → answer ≡ refused k → after ≡ out
+
+-- ## Sessions
+
+-- 7: a close is given another tag than the machine comes to
+abbrev pub tagDiffers : Machine → Call → Bool
+tagDiffers m (begin key nonce) = false
+tagDiffers m (dataCall piece) = false
+tagDiffers m (sealText piece out) = false
+tagDiffers m (checkText piece) = false
+tagDiffers m (sealClose out) = false
+tagDiffers m (checkClose tag) = not (sameBytes tag (tagOf (textEnded m .state)))
+
+-- the smallest number that applies to a session's call, 7 among them
+abbrev pub sessionNumber : Machine → Call → ℕ
+sessionNumber m c = unlessRefused (refusal m c) (7 if tagDiffers m c else accepted) (refusal m c)
+
+-- A count of steps that 64 bits hold. Every session has one, as its count is a u64; the contracts say it too: a fresh session has one
+-- (`RefusalDemand.fresh-count`), and so has every session and writer that a call hands back (`count`).
 abbrev pub Counts64 : ℕ → Type 0
 Counts64 n = n < 2 ^ 64
 
 module _ (s : Session) (c : Call) (r : SessionReply) (out : List ℕ) (called : Called s c r out) where
   pub record SessionRefusals : Type 0 where
-    -- where a number of the table, 7 apart, applies, the smallest that does is the answer
-    pub number : (n : ℕ) → refusal (machineOf s) c ≡ suc n → answerReply (r .answer) ≡ refused (suc n)
+    pub number : AnsweredBy (sessionNumber (machineOf s) c) (answerReply (r .answer))
     -- a refused call leaves session and lent bytes unchanged, but for 7
     pub unchanged : (n : ℕ) → Counts64 (machineOf s .counts .steps) → answerReply (r .answer) ≡ refused n → (n ≡ 7 → ⊥)
         → (machineOf (r .session) ≡ machineOf s) × (out ≡ outputOf c)
-    -- a tag that differs is answered 7, where no smaller number applies
-    pub mismatch : (tag : List ℕ) → c ≡ checkClose tag → refusal (machineOf s) c ≡ accepted → sameBytes tag (tagOf (textEnded (machineOf s) .state)) ≡ false
-        → answerReply (r .answer) ≡ refused 7
     -- with 7 the session has ended, and lent bytes are unchanged
     pub seven : answerReply (r .answer) ≡ refused 7 → Ended (machineOf (r .session)) × (out ≡ outputOf c)
+    pub count : Counts64 (machineOf (r .session) .counts .steps)
+
+-- ## Writers
 
 module _ (w : Writer) (c : WriterCall) (r : WriterReply) (out : List ℕ) (called : WriterCalled w c r out) where
   pub record WriterRefusals : Type 0 where
+    -- on any value of the struct, the smallest number that applies is given
     pub number : (n : ℕ) → plain.refusal (writerOf w) c ≡ suc n → answerReply (r .answer) ≡ refused (suc n)
+    -- and only then, on a writer that calls led to from a fresh one
+    pub exactly : (es : List (Entry WriterCall)) → WriterList es w → AnsweredBy (plain.refusal (writerOf w) c) (answerReply (r .answer))
+    -- a refused call leaves writer and lent bytes unchanged
     pub unchanged : (n : ℕ) → Counts64 (writerOf w .machine .counts .steps) → answerReply (r .answer) ≡ refused n
         → (writerOf (r .writer) ≡ writerOf w) × (out ≡ plain.outputOf c)
+    pub count : Counts64 (writerOf (r .writer) .machine .counts .steps)
 
--- the contract of `tape::open_tape`: it answered r, and left `after` in the output that was `out`
+-- ## Tapes, tickets and heads
+
+-- the contracts of `tape::open_tape`, `ticket::pack_ticket` and `pack_head`: the call answered r, and left `after` in the output that was `out`
 abbrev pub OpensTape : List ℕ → List ℕ → List ℕ → OpenedTape → List ℕ → Type 0
 OpensTape key tape out r after = openTape key tape out ≡ record { answer = openedReply r; out = after }
 
+abbrev pub PacksTicket : Ticket → List ℕ → Written → List ℕ → Type 0
+PacksTicket t out r after = packTicketInto t out ≡ record { answer = writtenReply r; out = after }
+
+abbrev pub PacksHead : Head → List ℕ → Written → List ℕ → Type 0
+PacksHead h out r after = packHeadInto h out ≡ record { answer = writtenReply r; out = after }
+
+-- those of `ticket::unpack_ticket` and `unpack_head`, which are lent no output
+abbrev pub UnpacksTicket : List ℕ → UnpackedTicket → Type 0
+UnpacksTicket string r = ticketReply r ≡ unpackTicket string
+
+abbrev pub UnpacksHead : List ℕ → UnpackedHead → Type 0
+UnpacksHead string r = headReply r ≡ unpackHead string
+
 module _ (key tape out after : List ℕ) (r : OpenedTape) (opened : OpensTape key tape out r after) where
   pub record OpeningRefusals : Type 0 where
-    -- the number is the table's smallest that applies
-    pub number : (n : ℕ) → openRefusal key tape out ≡ suc n → openedReply r ≡ refused (suc n)
+    pub number : AnsweredBy (openRefusal key tape out) (openedReply r)
     -- a refused opening leaves its output as it was
     pub unchanged : (n : ℕ) → openedReply r ≡ refused n → after ≡ out
     -- where the tag differs and no smaller number applies, the answer is 7
     pub seven : length key ≡ keyLength → tapeLength (length tape) ≡ true → isRefused (unpackHead (headBytes tape)) ≡ false
-        → ticketLength * ticketCount tape ≤ length out → tagMatches key (nonceOf (headBytes tape)) (headBytes tape) (sealedBytes tape) ≡ false
+        → ticketLength * ticketCount tape ≤ length out → message.tagMatches key (nonceOf (headBytes tape)) (headBytes tape) (sealedBytes tape) ≡ false
         → openedReply r ≡ refused 7
+
+-- ## Readers
+
+-- the smallest number that applies to a reader's call: 2, or 8 where there is a ticket before it that does not unpack
+abbrev pub readerNumber : model.Reader → ℕ
+readerNumber r =
+    2 if not (ticketsLength (length (r .string))) else
+    accepted if leb (length (r .string) / ticketLength) (r .position) else
+    8 if isRefused (unpackTicket (take ticketLength (drop (ticketLength * r .position) (r .string)))) else
+    accepted
+
+module _ (r : Reader) (h : Handed) (called : NextCalled r h) where
+  pub record ReaderRefusals : Type 0 where
+    pub number : AnsweredBy (readerNumber (readerOf r)) (nextReply (h .answer))
+    pub unchanged : (n : ℕ) → nextReply (h .answer) ≡ refused n → readerOf (h .reader) ≡ readerOf r
+
+-- ## All of it
 
 pub record RefusalDemand : Type 0 where
   pub sessions : (s : Session) (c : Call) (r : SessionReply) (out : List ℕ) (called : Called s c r out) → SessionRefusals s c r out called
+  pub fresh-count : (s : Session) (kind : Kind) → machineOf s ≡ fresh kind → Counts64 (machineOf s .counts .steps)
   pub writers : (w : Writer) (c : WriterCall) (r : WriterReply) (out : List ℕ) (called : WriterCalled w c r out) → WriterRefusals w c r out called
+  -- whole messages
+  pub sealing : (key nonce «data» text out after : List ℕ) (r : Written) → Seals key nonce «data» text out r after
+      → RefusedBy (message.sealRefusal key nonce «data» text out) (writtenReply r) out after
+  pub opening : (key nonce «data» sealedBytes out after : List ℕ) (r : Written) → OpensTo key nonce «data» sealedBytes out r after
+      → RefusedBy (message.openRefusal key nonce «data» sealedBytes out) (writtenReply r) out after
+  -- tapes
   pub openings : (key tape out after : List ℕ) (r : OpenedTape) (opened : OpensTape key tape out r after) → OpeningRefusals key tape out after r opened
   -- two openings that both end on a differing tag, with equal outputs before, give the same answer and leave equal outputs
   pub sevens-alike : (key key′ tape tape′ out after after′ : List ℕ) (r r′ : OpenedTape) → OpensTape key tape out r after → OpensTape key′ tape′ out r′ after′
       → openedReply r ≡ refused 7 → openedReply r′ ≡ refused 7 → after ≡ after′
+  pub readers : (r : Reader) (h : Handed) (called : NextCalled r h) → ReaderRefusals r h called
+  -- tickets and heads by themselves
+  pub packing : (t : Ticket) (out after : List ℕ) (r : Written) → PacksTicket t out r after
+      → RefusedBy (4 if not (ticketRule t) else 6 if ltb (length out) ticketLength else accepted) (writtenReply r) out after
+  pub packing-heads : (h : Head) (out after : List ℕ) (r : Written) → PacksHead h out r after
+      → RefusedBy (3 if not (headRule h) else 6 if ltb (length out) headLength else accepted) (writtenReply r) out after
+  pub unpacking : (string : List ℕ) (r : UnpackedTicket) → UnpacksTicket string r
+      → AnsweredBy (2 if not (eqb (length string) ticketLength) else 8 if not (valuesRule (unpack (widths form1) string)) else accepted) (ticketReply r)
+  pub unpacking-heads : (string : List ℕ) (r : UnpackedHead) → UnpacksHead string r
+      → AnsweredBy (2 if not (eqb (length string) headLength) else 3 if not (inRanges headFormat (unpack (widths headFormat) string)) else accepted) (headReply r)

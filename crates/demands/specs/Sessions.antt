@@ -9,8 +9,8 @@ use Rattle.acorn_model.specs.declared.Kind.{Kind}
 use Rattle.acorn_model.specs.declared.Kind.the-variants.{Sealing, Checking}
 use Rattle.acorn_model.specs.Bits.{Bits, AreBytes, bitsIn, bytes}
 use Rattle.acorn_model.specs.Stretches.{tagLength}
-use Rattle.acorn_model.specs.Calls.{Reply, refused, done, Work, answerReply, Entry, callsOf, entries, handedOn}
-use Rattle.acorn_model.specs.Machine.{Machine, Call, fresh, call}
+use Rattle.acorn_model.specs.Calls.{refused, done, answerReply, Entry, callsOf, entries, handedOn}
+use Rattle.acorn_model.specs.Machine.{Call, fresh, call}
 use Rattle.acorn_model.specs.Lists.{Arguments, Log, logOf, Ended, Alike}
 use Rattle.acorn_model.specs.Laws.{ByPaper}
 use Rattle.call_lists.specs.MachineLists.{endedSteps}

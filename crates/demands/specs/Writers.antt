@@ -2,7 +2,7 @@
 use mathlib.Core.Path.{_≡_}
 use mathlib.Core.List.{List, [], _∷_, _++_}
 use Rattle.acorn_model.specs.declared.Kind.the-variants.{Sealing}
-use Rattle.acorn_model.specs.Calls.{Work, answerReply, Entry, callsOf, entries, handedOn}
+use Rattle.acorn_model.specs.Calls.{answerReply, Entry, callsOf, entries, handedOn}
 use Rattle.acorn_model.specs.Machine.{fresh, call}
 use Rattle.acorn_model.specs.Lists.{logOf}
 use Rattle.tape_model.specs.declared.WriterPhase.the-variants.{Closed}
