@@ -81,6 +81,7 @@ module _ (kind : Kind) (a b : Log) (s : Alike kind a b) where
 
 pub machine-lists : MachineLists
 machine-lists = record {
+  taken = λ kind calls. let r = reached-after kind calls in (r .dataBytes, r .dataFits, r .textBytes, r .textFits);
   counted = steps-after;
   began = λ kind calls c. (ended-after kind calls c .arguments, ended-after kind calls c .begins);
   wrote = λ calls a c h. by-arguments Sealing (logFrom Sealing calls) a h (ended-after Sealing calls c) .0;

@@ -66,6 +66,7 @@ writer-lists = record {
       r .written ∙ ap (λ (l : Log). headsOf (writerLogFrom calls .starts) ++ l .written) (r .ran .log-is);
   none = λ calls. none-written (writerAfter calls .phase) (writerAfter calls .machine .phase) (writerLogFrom calls) (writer-reached calls .below) (writer-reached calls .means);
   tickets = λ calls. writer-reached calls .tickets;
+  at-most = λ calls. let r = writer-reached calls in omega (arith, r .tickets, r .fits);
   tape = λ calls c.
       let r = writer-reached calls in
       let m = writer-in-phase (writerAfter calls) (writerLogFrom calls) Closed c r in

@@ -3,13 +3,13 @@
 use mathlib.Core.Path.{_≡_}
 use mathlib.Core.List.{List, [], _∷_}
 use mathlib.Core.Logic.{_↔_}
-use Prim.Native.Nat.{ℕ, _+_, _*_}
+use Prim.Native.Nat.{ℕ, _+_, _*_, _≤_}
 use lib.ListN.{length}
 use Rattle.acorn_model.specs.declared.Kind.{Kind}
 use Rattle.acorn_model.specs.declared.Kind.the-variants.{Sealing, Checking}
 use Rattle.acorn_model.specs.Paper.{newTag}
 use Rattle.acorn_model.specs.Calls.{refused, done, entries, handedOn}
-use Rattle.acorn_model.specs.Machine.{Machine, fresh, Call, call}
+use Rattle.acorn_model.specs.Machine.{Machine, fresh, Call, byteLimit, call}
 use Rattle.acorn_model.specs.Lists.{Arguments, Log, logOf, Ended, Alike}
 use Rattle.acorn_model.specs.Message.{sealed}
 
@@ -26,6 +26,10 @@ abbrev pub endedSteps : Log → ℕ
 endedSteps log = 3072 + 8 * (length (log .«data») + length (log .text))
 
 pub record MachineLists : Type 0 where
+  -- it has counted the bytes of data and of text taken, each at most 65,536
+  pub taken : (kind : Kind) (calls : List Call)
+      → (machineAfter kind calls .counts .dataBytes ≡ length (logFrom kind calls .«data»)) × (length (logFrom kind calls .«data») ≤ byteLimit)
+      × (machineAfter kind calls .counts .textBytes ≡ length (logFrom kind calls .text)) × (length (logFrom kind calls .text) ≤ byteLimit)
   -- once a close has ended the session, tag good or not, the count is 3,072 plus 8 for each byte of data and text taken
   pub counted : (kind : Kind) (calls : List Call) → Ended (machineAfter kind calls)
       → machineAfter kind calls .counts .steps ≡ endedSteps (logFrom kind calls)

@@ -39,8 +39,9 @@ pub record WriterLists : Type 0 where
       → writerLogFrom calls .written ≡ headsOf (writerLogFrom calls .starts) ++ logOf (entries call (fresh Sealing) (writerLogFrom calls .machineCalls)) .written
   -- with no accepted start there are none
   pub none : (calls : List WriterCall) → writerLogFrom calls .starts ≡ [] → writerLogFrom calls .written ≡ []
-  -- it has counted the tickets added
+  -- it has counted the tickets added, at most 5,000
   pub tickets : (calls : List WriterCall) → writerAfter calls .tickets ≡ length (writerLogFrom calls .tickets)
+  pub at-most : (calls : List WriterCall) → length (writerLogFrom calls .tickets) ≤ ticketLimit
   -- a finished writer was started once, and has written the tape of that key and head and the tickets added, which come back from it
   pub tape : (calls : List WriterCall) → writerAfter calls .phase ≡ Closed
       → (s : Started) × (writerLogFrom calls .starts ≡ (s ∷ [])) × (writerLogFrom calls .written ≡ tapeOf (s .key) (s .head) (writerLogFrom calls .tickets))

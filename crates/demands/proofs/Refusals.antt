@@ -17,11 +17,12 @@ use Rattle.acorn_model.specs.Machine.{work as machineWork}
 use Rattle.acorn_model.specs.Message.{tagMatches}
 use Rattle.acorn_model.specs.Message as message
 use Rattle.tape_model.specs.declared.OpenedTape.{OpenedTape}
+use Rattle.tape_model.specs.declared.WriterPhase.the-variants.{Open}
 use Rattle.tape_model.specs.declared.Ticket.{Ticket}
 use Rattle.tape_model.specs.Format.{widths, inRanges, unpack}
-use Rattle.tape_model.specs.Ticket.{form1, ticketLength, ticketOf, valuesRule, packTicketInto, unpackTicket}
+use Rattle.tape_model.specs.Ticket.{form1, ticketLength, ticketOf, valuesRule, ticketRule, packTicketInto, unpackTicket}
 use Rattle.tape_model.specs.Ticket.{headFormat, headLength, headOf, packHeadInto, unpackHead}
-use Rattle.tape_model.specs.Tape.{nonceOf, ticketsLength, isRefused, tapeLength, headBytes, sealedBytes, ticketCount, openRefusal, openTape, openedReply}
+use Rattle.tape_model.specs.Tape.{ticketLimit, nonceOf, ticketsLength, isRefused, tapeLength, headBytes, sealedBytes, ticketCount, openRefusal, openTape, openedReply}
 use Rattle.tape_model.specs.Writer.{PlainWriter, WriterCall, start, add, finish, onAnswer, passedOn, started, writerCall}
 use Rattle.tape_model.specs.Writer as plain
 use Rattle.tape_model.specs.Reader as model
@@ -43,7 +44,7 @@ use Rattle.reader.specs.Contracts as reader
 use Rattle.ticket.proofs.Summing.{refused-by-8}
 use Rattle.demands.specs.Refusals.{AnsweredBy, tagDiffers, sessionNumber, Counts64, SessionRefusals, WriterRefusals, OpensTape, OpeningRefusals, readerNumber, ReaderRefusals, RefusalDemand}
 use Rattle.demands.proofs.Numbers.{never, same-number, accepted-by, refused-by, by-cases, chain, refused-as}
-use Rattle.demands.proofs.Writers.{HasRun, has-run}
+use Rattle.demands.proofs.Writers.{HasRun, has-run, writer-demand}
 
 -- counting in 64 bits does not touch a refusal
 still-refused : (a : Reply Work) (n : ℕ) → wrappedReply a ≡ refused n → a ≡ refused n
@@ -188,6 +189,11 @@ writer-refusals w c r out h =
       count = subst (λ (x : PlainWriter). Counts64 (x .machine .counts .steps)) (sym next) (goes-round (writerCall p c .next .machine .counts .steps));
     }
 
+-- an open writer with 5,000 tickets sends a further one back
+full : (w : PlainWriter) (t : Ticket) (out : List ℕ) → w .phase ≡ Open → w .tickets ≡ ticketLimit → ticketRule t ≡ true → plain.refusal w (add t out) ≡ 5
+unfolding plain.refusal plain.phaseAllows plain.keyRight plain.headRight plain.ticketRight plain.tapeFull
+full w t out o n v = rw (o, v, n)
+
 -- ## Tapes
 
 -- past the tests of 2, 3 and 6, a differing tag is 7
@@ -254,6 +260,8 @@ refusal-demand =
       sessions = session-refusals;
       fresh-count = λ s kind e. subst (λ (m : Machine). Counts64 (m .counts .steps)) (sym e) (unfold fresh in omega arith);
       writers = writer-refusals;
+      ticket-5001 = λ es w l o n t out after r v called.
+          writer-refusals w (add t out) r after called .number 4 (full (writerOf w) t out o (writer-demand .tickets es w l .0 ∙ n) v);
       sealing = λ key nonce d text out after r h. refused-as _ _ _ out (writtenReply r) after h;
       opening = λ key nonce d s out after r h. refused-as _ _ _ out (writtenReply r) after h;
       openings = opening-refusals;

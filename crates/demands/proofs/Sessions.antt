@@ -1,8 +1,8 @@
 -- Demands 3 and 2 on sessions, from the contracts of the methods and from what the machine is after a list.
-use mathlib.Core.Path.{_≡_, refl, sym, ap, _∙_, subst}
+use mathlib.Core.Path.{_≡_, refl, sym, ap, _∙_, subst, subst₂}
 use mathlib.Core.List.{List, [], _∷_, _++_}
 use mathlib.Core.Logic.{_↔_}
-use Prim.Native.Nat.{ℕ}
+use Prim.Native.Nat.{ℕ, _≤_}
 use lib.ListN.{length}
 use Rattle.acorn_model.specs.declared.Kind.{Kind}
 use Rattle.acorn_model.specs.declared.Kind.the-variants.{Sealing, Checking}
@@ -10,7 +10,7 @@ use Rattle.acorn_model.specs.Bits.{Bits, AreBytes, bitsIn, bytes}
 use Rattle.acorn_model.specs.Stretches.{tagLength}
 use Rattle.acorn_model.specs.Paper.{newTag}
 use Rattle.acorn_model.specs.Calls.{refused, done, answerReply, Entry, callsOf, entries, handedOn}
-use Rattle.acorn_model.specs.Machine.{Machine, Call, fresh, call}
+use Rattle.acorn_model.specs.Machine.{Machine, Call, fresh, byteLimit, call}
 use Rattle.acorn_model.specs.Lists.{Arguments, Log, logOf, Ended, Alike}
 use Rattle.acorn_model.proofs.Proved.{paper-computed}
 use Rattle.call_lists.specs.MachineLists.{machineAfter, logFrom, endedSteps}
@@ -54,6 +54,14 @@ module _ (kind : Kind) (es : List (Entry Call)) (e : Session) (l : SessionList k
 
   ended : Ended (machineOf e) → Ended (machineAfter kind (callsOf es))
   ended h = subst Ended same-end h
+
+taken : (kind : Kind) (es : List (Entry Call)) (e : Session) → SessionList kind es e
+    → (machineOf e .counts .dataBytes ≡ length (logOf es .«data»)) × (length (logOf es .«data») ≤ byteLimit)
+    × (machineOf e .counts .textBytes ≡ length (logOf es .text)) × (length (logOf es .text) ≤ byteLimit)
+taken kind es e l =
+    subst₂ (λ (m : Machine) (x : Log). (m .counts .dataBytes ≡ length (x .«data»)) × (length (x .«data») ≤ byteLimit)
+    × (m .counts .textBytes ≡ length (x .text)) × (length (x .text) ≤ byteLimit))
+    (sym (same-end kind es e l)) (sym (same-log kind es e l)) (machine-lists .taken kind (callsOf es))
 
 counted : (kind : Kind) (es : List (Entry Call)) (e : Session) → SessionList kind es e → Ended (machineOf e) → machineOf e .counts .steps ≡ endedSteps (logOf es)
 counted kind es e l h =
@@ -104,4 +112,4 @@ judged es e l h k a b p T q =
     rw (paper-computed (a .key) (a .nonce) (logOf es .«data») .opening-only (logOf es .text) p T k q .1) j
 
 pub session-demand : SessionDemand
-session-demand = record { as-machine = as-machine; counted = counted; cuts = cuts; began = began; sealed = sealed; judged = judged }
+session-demand = record { as-machine = as-machine; taken = taken; counted = counted; cuts = cuts; began = began; sealed = sealed; judged = judged }

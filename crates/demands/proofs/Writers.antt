@@ -1,7 +1,8 @@
 -- Demand 3 on the tape writer, from the contracts of its methods and from what the plain writer is after a list.
-use mathlib.Core.Path.{_≡_, sym, ap, _∙_, subst}
+use mathlib.Core.Path.{_≡_, sym, ap, _∙_, subst, subst₂}
 use mathlib.Core.List.{List, [], _∷_, _++_}
-use Prim.Native.Nat.{ℕ, _<_, _^_}
+use Prim.Native.Nat.{ℕ, _≤_, _<_, _^_}
+use lib.ListN.{length}
 use Rattle.acorn_model.specs.declared.Kind.the-variants.{Sealing}
 use Rattle.acorn_model.specs.Calls.{Work, Outcome, answerReply, refusedWith, Entry, callsOf, entries, handedOn}
 use Rattle.acorn_model.specs.Machine.{Machine, fresh, Call, sealText, sealClose, work as machineWork, call}
@@ -10,7 +11,7 @@ use Rattle.tape_model.specs.declared.WriterPhase.{WriterPhase}
 use Rattle.tape_model.specs.declared.WriterPhase.the-variants.{Open, Closed}
 use Rattle.tape_model.specs.Ticket.{packTicket}
 use Rattle.tape_model.specs.Writer.{PlainWriter, freshWriter, WriterCall, start, add, finish, outputOf, refusal, work, writerCall}
-use Rattle.tape_model.specs.Tape.{tapeOf}
+use Rattle.tape_model.specs.Tape.{ticketLimit, tapeOf}
 use Rattle.tape_model.specs.WriterLists.{Started, WriterLog, writerLog, headsOf}
 use Rattle.tape_model.specs.Laws.{TapeLaws}
 use Rattle.call_lists.specs.WriterLists.{writerLogFrom}
@@ -97,10 +98,17 @@ module _ (es : List (Entry WriterCall)) (e : Writer) (l : WriterList es e) where
   pub same-log : writerLogFrom (callsOf es) ≡ writerLog es
   same-log = ap writerLog (sym (as-plain .0))
 
+tickets : (es : List (Entry WriterCall)) (e : Writer) → WriterList es e
+    → (writerOf e .tickets ≡ length (writerLog es .tickets)) × (length (writerLog es .tickets) ≤ ticketLimit)
+tickets es e l =
+    subst₂ (λ (w : PlainWriter) (x : WriterLog). (w .tickets ≡ length (x .tickets)) × (length (x .tickets) ≤ ticketLimit))
+    (sym (as-plain es e l .1)) (same-log es e l) (writer-lists .tickets (callsOf es), writer-lists .at-most (callsOf es))
+
 pub writer-demand : WriterDemand
 writer-demand =
     record {
       as-plain = as-plain;
+      tickets = tickets;
       written = λ es e l.
           subst (λ (x : WriterLog). x .written ≡ headsOf (x .starts) ++ logOf (entries call (fresh Sealing) (x .machineCalls)) .written) (same-log es e l) (writer-lists .written (callsOf es));
       none = λ es e l. subst (λ (x : WriterLog). x .starts ≡ [] → x .written ≡ []) (same-log es e l) (writer-lists .none (callsOf es));

@@ -19,12 +19,14 @@ use Rattle.tape_model.specs.declared.Head.{Head}
 use Rattle.tape_model.specs.declared.UnpackedTicket.{UnpackedTicket}
 use Rattle.tape_model.specs.declared.UnpackedHead.{UnpackedHead}
 use Rattle.tape_model.specs.declared.OpenedTape.{OpenedTape}
+use Rattle.tape_model.specs.declared.WriterPhase.the-variants.{Open}
 use Rattle.tape_model.specs.Format.{widths, inRanges, unpack}
 use Rattle.tape_model.specs.Ticket.{form1, ticketLength, valuesRule, ticketRule, packTicketInto, unpackTicket, ticketReply}
 use Rattle.tape_model.specs.Ticket.{headFormat, headLength, headRule, packHeadInto, unpackHead, headReply}
-use Rattle.tape_model.specs.Tape.{nonceOf, ticketsLength, isRefused, tapeLength, headBytes, sealedBytes, ticketCount, openRefusal, openTape, openedReply}
-use Rattle.tape_model.specs.Writer.{WriterCall}
+use Rattle.tape_model.specs.Tape.{ticketLimit, nonceOf, ticketsLength, isRefused, tapeLength, headBytes, sealedBytes, ticketCount, openRefusal, openTape, openedReply}
+use Rattle.tape_model.specs.Writer.{WriterCall, add}
 use Rattle.tape_model.specs.Writer as plain
+use Rattle.tape_model.specs.WriterLists.{writerLog}
 use Rattle.tape_model.specs.Reader as model
 use Rattle.tape_model.specs.Reader.{nextReply}
 use Rattle.session.specs.declared.Session.{Session}
@@ -145,6 +147,10 @@ pub record RefusalDemand : Type 0 where
   pub sessions : (s : Session) (c : Call) (r : SessionReply) (out : List ℕ) (called : Called s c r out) → SessionRefusals s c r out called
   pub fresh-count : (s : Session) (kind : Kind) → machineOf s ≡ fresh kind → Counts64 (machineOf s .counts .steps)
   pub writers : (w : Writer) (c : WriterCall) (r : WriterReply) (out : List ℕ) (called : WriterCalled w c r out) → WriterRefusals w c r out called
+  -- the 5,001st ticket
+  pub ticket-5001 : (es : List (Entry WriterCall)) (w : Writer) → WriterList es w → writerOf w .phase ≡ Open → length (writerLog es .tickets) ≡ ticketLimit
+      → (t : Ticket) (out after : List ℕ) (r : WriterReply) → ticketRule t ≡ true → WriterCalled w (add t out) r after
+      → answerReply (r .answer) ≡ refused 5
   -- whole messages
   pub sealing : (key nonce «data» text out after : List ℕ) (r : Written) → Seals key nonce «data» text out r after
       → RefusedBy (message.sealRefusal key nonce «data» text out) (writtenReply r) out after

@@ -3,14 +3,14 @@
 use mathlib.Core.Path.{_≡_}
 use mathlib.Core.List.{List, [], _∷_, _++_}
 use mathlib.Core.Logic.{_↔_}
-use Prim.Native.Nat.{ℕ}
+use Prim.Native.Nat.{ℕ, _≤_}
 use lib.ListN.{length}
 use Rattle.acorn_model.specs.declared.Kind.{Kind}
 use Rattle.acorn_model.specs.declared.Kind.the-variants.{Sealing, Checking}
 use Rattle.acorn_model.specs.Bits.{Bits, AreBytes, bitsIn, bytes}
 use Rattle.acorn_model.specs.Stretches.{tagLength}
 use Rattle.acorn_model.specs.Calls.{refused, done, answerReply, Entry, callsOf, entries, handedOn}
-use Rattle.acorn_model.specs.Machine.{Call, fresh, call}
+use Rattle.acorn_model.specs.Machine.{Call, fresh, byteLimit, call}
 use Rattle.acorn_model.specs.Lists.{Arguments, Log, logOf, Ended, Alike}
 use Rattle.acorn_model.specs.Laws.{ByPaper}
 use Rattle.call_lists.specs.MachineLists.{endedSteps}
@@ -35,6 +35,10 @@ pub record SessionDemand : Type 0 where
   -- at its end phase, counts and (before closed) the 293 bits are
   pub as-machine : (kind : Kind) (es : List (Entry Call)) (e : Session) → SessionList kind es e
       → (es ≡ entries call (fresh kind) (callsOf es)) × (machineOf e ≡ handedOn call (fresh kind) (callsOf es))
+  -- it has counted the bytes of data and of text taken, each at most 65,536
+  pub taken : (kind : Kind) (es : List (Entry Call)) (e : Session) → SessionList kind es e
+      → (machineOf e .counts .dataBytes ≡ length (logOf es .«data»)) × (length (logOf es .«data») ≤ byteLimit)
+      × (machineOf e .counts .textBytes ≡ length (logOf es .text)) × (length (logOf es .text) ≤ byteLimit)
   -- once a close has ended the session, tag good or not, the count is 3,072 plus 8 for each byte of data and text taken
   pub counted : (kind : Kind) (es : List (Entry Call)) (e : Session) → SessionList kind es e → Ended (machineOf e)
       → machineOf e .counts .steps ≡ endedSteps (logOf es)

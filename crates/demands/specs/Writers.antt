@@ -1,12 +1,14 @@
 -- Demand 3 on the tape writer: every list of start, add and finish calls from a fresh writer, refused ones among them.
 use mathlib.Core.Path.{_≡_}
 use mathlib.Core.List.{List, [], _∷_, _++_}
+use Prim.Native.Nat.{_≤_}
+use lib.ListN.{length}
 use Rattle.acorn_model.specs.declared.Kind.the-variants.{Sealing}
 use Rattle.acorn_model.specs.Calls.{answerReply, Entry, callsOf, entries, handedOn}
 use Rattle.acorn_model.specs.Machine.{fresh, call}
 use Rattle.acorn_model.specs.Lists.{logOf}
 use Rattle.tape_model.specs.declared.WriterPhase.the-variants.{Closed}
-use Rattle.tape_model.specs.Tape.{tapeOf}
+use Rattle.tape_model.specs.Tape.{ticketLimit, tapeOf}
 use Rattle.tape_model.specs.Writer.{WriterCall, freshWriter, writerCall}
 use Rattle.tape_model.specs.WriterLists.{Started, writerLog, headsOf}
 use Rattle.tape_model.specs.Laws.{TapeLaws}
@@ -26,6 +28,9 @@ pub record WriterDemand : Type 0 where
   -- phase, tickets added, steps and (before closed) the 293 bits are
   pub as-plain : (es : List (Entry WriterCall)) (e : Writer) → WriterList es e
       → (es ≡ entries writerCall freshWriter (callsOf es)) × (writerOf e ≡ handedOn writerCall freshWriter (callsOf es))
+  -- it has counted the tickets added, at most 5,000
+  pub tickets : (es : List (Entry WriterCall)) (e : Writer) → WriterList es e
+      → (writerOf e .tickets ≡ length (writerLog es .tickets)) × (length (writerLog es .tickets) ≤ ticketLimit)
   -- the bytes written are the accepted head's nine, then the one-step machine's for that key and head, the accepted tickets and accepted finish
   pub written : (es : List (Entry WriterCall)) (e : Writer) → WriterList es e
       → writerLog es .written ≡ headsOf (writerLog es .starts) ++ logOf (entries call (fresh Sealing) (writerLog es .machineCalls)) .written
