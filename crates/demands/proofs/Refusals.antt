@@ -259,6 +259,7 @@ refusal-demand =
     record {
       sessions = session-refusals;
       fresh-count = λ s kind e. subst (λ (m : Machine). Counts64 (m .counts .steps)) (sym e) (unfold fresh in omega arith);
+      fresh-writer-count = λ w e. subst (λ (p : PlainWriter). Counts64 (p .machine .counts .steps)) (sym e) (unfold plain.freshWriter fresh in omega arith);
       writers = writer-refusals;
       ticket-5001 = λ es w l o n t out after r v called.
           writer-refusals w (add t out) r after called .number 4 (full (writerOf w) t out o (writer-demand .tickets es w l .0 ∙ n) v);

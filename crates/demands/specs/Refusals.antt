@@ -69,8 +69,8 @@ tagDiffers m (checkClose tag) = not (sameBytes tag (tagOf (textEnded m .state)))
 abbrev pub sessionNumber : Machine → Call → ℕ
 sessionNumber m c = unlessRefused (refusal m c) (7 if tagDiffers m c else accepted) (refusal m c)
 
--- A count of steps that 64 bits hold. Every session has one, as its count is a u64; the contracts say it too: a fresh session has one
--- (`RefusalDemand.fresh-count`), and so has every session and writer that a call hands back (`count`).
+-- A count of steps that 64 bits hold. Every session has one, as its count is a u64; the contracts say it too: a fresh session or writer has one
+-- (`RefusalDemand.fresh-count`, `fresh-writer-count`), and so has every one that a call hands back (`count`).
 abbrev pub Counts64 : ℕ → Type 0
 Counts64 n = n < 2 ^ 64
 
@@ -146,6 +146,7 @@ module _ (r : Reader) (h : Handed) (called : NextCalled r h) where
 pub record RefusalDemand : Type 0 where
   pub sessions : (s : Session) (c : Call) (r : SessionReply) (out : List ℕ) (called : Called s c r out) → SessionRefusals s c r out called
   pub fresh-count : (s : Session) (kind : Kind) → machineOf s ≡ fresh kind → Counts64 (machineOf s .counts .steps)
+  pub fresh-writer-count : (w : Writer) → writerOf w ≡ plain.freshWriter → Counts64 (writerOf w .machine .counts .steps)
   pub writers : (w : Writer) (c : WriterCall) (r : WriterReply) (out : List ℕ) (called : WriterCalled w c r out) → WriterRefusals w c r out called
   -- the 5,001st ticket
   pub ticket-5001 : (es : List (Entry WriterCall)) (w : Writer) → WriterList es w → writerOf w .phase ≡ Open → length (writerLog es .tickets) ≡ ticketLimit
@@ -168,6 +169,8 @@ pub record RefusalDemand : Type 0 where
   pub packing-heads : (h : Head) (out after : List ℕ) (r : Written) → PacksHead h out r after
       → RefusedBy (3 if not (headRule h) else 6 if ltb (length out) headLength else accepted) (writtenReply r) out after
   pub unpacking : (string : List ℕ) (r : UnpackedTicket) → UnpacksTicket string r
-      → AnsweredBy (2 if not (eqb (length string) ticketLength) else 8 if not (valuesRule (unpack (widths form1) string)) else accepted) (ticketReply r)
+      → AnsweredBy (2 if not (eqb (length string) ticketLength) else 8 if not (valuesRule (unpack (widths form1) string)) else accepted)
+      (ticketReply r)
   pub unpacking-heads : (string : List ℕ) (r : UnpackedHead) → UnpacksHead string r
-      → AnsweredBy (2 if not (eqb (length string) headLength) else 3 if not (inRanges headFormat (unpack (widths headFormat) string)) else accepted) (headReply r)
+      → AnsweredBy (2 if not (eqb (length string) headLength) else 3 if not (inRanges headFormat (unpack (widths headFormat) string)) else accepted)
+      (headReply r)
