@@ -11,7 +11,7 @@ use acorn_model::Written;
 use compare::same_bytes;
 ghost use mathlib.Core.Path.{_≡_};
 ghost use Prim.Native.Nat.{_+_, _≤_};
-ghost use lib.ListN.{length};
+ghost use lib.ListN.{length, replicate};
 ghost use Rattle.acorn_model.specs.Stretches.{tagLength, afterData};
 ghost use Rattle.acorn_model.specs.Calls.{writtenReply, unlessRefused, sameBytes};
 ghost use Rattle.acorn_model.specs.Machine.{keyAndNonceRight};
@@ -110,15 +110,21 @@ fn open_by(
     }
 }
 
-fn zeros_512() -> [u8; 512] {
+fn zeros_512() -> [u8; 512]
+    ensures { λ r. ⌜ r ≡ replicate 512 0 ⌝ }
+{
     [0; 512]
 }
 
-fn zeros_8192() -> [u8; 8192] {
+fn zeros_8192() -> [u8; 8192]
+    ensures { λ r. ⌜ r ≡ replicate 8192 0 ⌝ }
+{
     [0; 8192]
 }
 
-fn zeros_65536() -> [u8; 65536] {
+fn zeros_65536() -> [u8; 65536]
+    ensures { λ r. ⌜ r ≡ replicate 65536 0 ⌝ }
+{
     [0; 65536]
 }
 
