@@ -1,17 +1,16 @@
 -- A call's whole outcome, from its refusal number and the session after it.
 use mathlib.Core.Path.{_≡_, refl, sym, ap, ap₂, _∙_}
-use mathlib.Core.Bool.{Bool, true, false, not}
+use mathlib.Core.Bool.{Bool, true, false}
 use mathlib.Core.List.{List, []}
 use Prim.Native.Nat.{ℕ, zero, suc, _<_, _^_}
 use native.Mathlib.Omega.{arith}
 use lib.ListN.{length}
-use Rattle.acorn_model.specs.Bits.{_if_else_}
 use Rattle.acorn_model.specs.Stretches.{tagOf}
-use Rattle.acorn_model.specs.Calls.{done, answerReply, accepted, unlessRefused, writtenOver, sameBytes, refusedWith}
+use Rattle.acorn_model.specs.Calls.{done, answerReply, unlessRefused, writtenOver, sameBytes, refusedWith}
 use Rattle.acorn_model.specs.Machine.{Machine, Call, checkClose, outputOf, phaseAllows, sizesRight, overLimit, outputShort, refusal, textEnded, closed, answered, wrote, verdict, work, call}
 use Rattle.session.specs.declared.Session.{Session}
 use Rattle.session.specs.declared.Reply.{Reply as SessionReply}
-use Rattle.session.specs.Contracts.{machineOf, outcomeOf, wrappedMachine, wrappedOutcome, Called, refusedReply, doneReply}
+use Rattle.session.specs.Contracts.{machineOf, outcomeOf, wrappedMachine, wrappedOutcome, Called, refusedReply, doneReply, refusalBy}
 use Rattle.session.proofs.Wrapping.{judged, within, wrote-wrapped, judged-wrapped, refused-wrapped}
 
 -- n is the refusal number of the call c of the session s
@@ -27,8 +26,7 @@ pub record Passes (m : Machine) (c : Call) : Type 0 where
   pub fits : overLimit (m .counts) c ≡ false
   pub room : outputShort c ≡ false
 
-chain : (allowed sized over short : Bool) → (1 if not allowed else 2 if not sized else 5 if over else 6 if short else accepted) ≡ 0
-    → (allowed ≡ true) × (sized ≡ true) × (over ≡ false) × (short ≡ false)
+chain : (allowed sized over short : Bool) → refusalBy allowed sized over short ≡ 0 → (allowed ≡ true) × (sized ≡ true) × (over ≡ false) × (short ≡ false)
 chain false sized over short e = absurd (omega arith)
 chain true false over short e = absurd (omega arith)
 chain true true true short e = absurd (omega arith)
@@ -36,10 +34,11 @@ chain true true false true e = absurd (omega arith)
 chain true true false false e = (refl, refl, refl, refl)
 
 -- the number of a call whose four tests come out so
-pub by-tests : {s : Session} {c : Call} (allowed sized over short : Bool) → phaseAllows (machineOf s .kind) (machineOf s .phase) c ≡ allowed → sizesRight c ≡ sized
-    → overLimit (machineOf s .counts) c ≡ over → outputShort c ≡ short → Numbered s c (1 if not allowed else 2 if not sized else 5 if over else 6 if short else accepted)
+pub by-tests : {s : Session} {c : Call} {n : ℕ} (allowed sized over short : Bool) → n ≡ refusalBy allowed sized over short
+    → phaseAllows (machineOf s .kind) (machineOf s .phase) c ≡ allowed → sizesRight c ≡ sized → overLimit (machineOf s .counts) c ≡ over → outputShort c ≡ short
+    → Numbered s c n
 unfolding refusal
-by-tests allowed sized over short a z o r = record { is = rw (a, z, o, r) }
+by-tests allowed sized over short e a z o r = record { is = rw (a, z, o, r) e }
 
 refused-if : {A : Type 0} (n : ℕ) (a b : A) → (n ≡ 0 → ⊥) → unlessRefused n a b ≡ b
 unfolding unlessRefused

@@ -1,14 +1,14 @@
 -- How a session is held against document 01's machine: the one equation that every method's contract is.
 use mathlib.Core.Path.{_≡_}
-use mathlib.Core.Bool.{Bool}
+use mathlib.Core.Bool.{Bool, not}
 use mathlib.Core.List.{List}
 use Prim.Native.Nat.{ℕ, _%_, _^_}
 use Rattle.acorn_model.specs.declared.Phase.{Phase}
 use Rattle.acorn_model.specs.declared.Answer.the-variants.{Refused, Done}
 use Rattle.acorn_model.specs.Bits.{Bits, _if_else_}
 use Rattle.acorn_model.specs.Stretches.{through, dataEnd}
-use Rattle.acorn_model.specs.Calls.{Reply, refused, done, Work, Outcome, answerReply}
-use Rattle.acorn_model.specs.Machine.{Machine, Call, isData, phaseAllows, sizesRight, overLimit, outputShort, refusal, textTaken, call}
+use Rattle.acorn_model.specs.Calls.{Reply, refused, done, Work, accepted, Outcome, answerReply}
+use Rattle.acorn_model.specs.Machine.{Machine, Call, isData, textTaken, call}
 use Rattle.acorn.specs.declared.State.{State}
 use Rattle.acorn.specs.Together.{stateOf}
 use Rattle.session.specs.declared.Session.{Session}
@@ -72,11 +72,14 @@ endedState phase S = through dataEnd S if isData phase else S
 abbrev pub endedSteps : Phase → ℕ
 endedSteps phase = dataEnd .steps if isData phase else 0
 
--- r is the refusal number of each call whose four tests come out so
-abbrev pub IsRefusal : Bool → Bool → Bool → Bool → ℕ → Type 0
-IsRefusal allowed sized over short r =
-    (m : Machine) (c : Call) → phaseAllows (m .kind) (m .phase) c ≡ allowed → sizesRight c ≡ sized → overLimit (m .counts) c ≡ over → outputShort c ≡ short
-    → r ≡ refusal m c
+-- the smallest number that applies, by a call's four tests
+abbrev pub refusalBy : Bool → Bool → Bool → Bool → ℕ
+refusalBy allowed sized over short =
+    1 if not allowed else
+    2 if not sized else
+    5 if over else
+    6 if short else
+    accepted
 
 -- the session z after a piece of text, where `state` is what the piece led to
 abbrev pub TextTaken : Session → List ℕ → State → Session → Type 0

@@ -6,7 +6,7 @@ ghost use mathlib.Core.Bool.{_||_};
 ghost use Prim.Native.Nat.{_+_};
 ghost use lib.Dec.{ltb};
 ghost use Rattle.acorn_model.specs.Machine.{isSealing, isChecking, isFresh, isData, isText, byteLimit};
-ghost use Rattle.session.specs.Contracts.{IsRefusal};
+ghost use Rattle.session.specs.Contracts.{refusalBy};
 
 pub(crate) fn is_sealing(kind: Kind) -> bool
     ensures { λ r. ⌜ r ≡ isSealing kind ⌝ }
@@ -69,7 +69,7 @@ pub(crate) fn over_limit(taken: u64, piece: usize) -> bool
 
 // The smallest number that applies, by the four tests; 0 where none does.
 pub(crate) fn number(allowed: bool, sized: bool, over: bool, short: bool) -> u8
-    ensures { λ r. ⌜ IsRefusal allowed sized over short r ⌝ }
+    ensures { λ r. ⌜ r ≡ refusalBy allowed sized over short ⌝ }
 {
     if !allowed {
         return 1;

@@ -8,13 +8,13 @@ use Rattle.acorn_model.specs.Machine.{begin, outputOf, phaseAllows, sizesRight,
 use Rattle.acorn.specs.Runs.{startState}
 use Rattle.session.specs.Contracts.{machineOf, wrapped}
 use Rattle.session.proofs.NextSession.{stands-for}
-use Rattle.session.proofs.Replies.{Numbered, passes, refuses, writes}
+use Rattle.session.proofs.Replies.{Numbered, by-tests, passes, refuses, writes}
 use Rattle.session.proofs.Session.begin.Statement.{statement}
 use Rattle.session.proofs.Session.begin.Tie as tie
 
 number-is : (c : tie.After-number) → let a = c .before .before .before .before .args in Numbered (a .self) (begin (a .key .now) (a .nonce .now)) (c .number .result)
 unfolding machineOf phaseAllows sizesRight overLimit outputShort
-number-is c = record { is = c .number .ensures _ _ (sym (c .before .is-fresh .ensures)) refl refl refl }
+number-is c = by-tests _ _ _ _ (c .number .ensures) (sym (c .before .is-fresh .ensures)) refl refl refl
 
 is-fresh-requires : tie.Need-is-fresh-requires
 is-fresh-requires c κs = search needs

@@ -8,7 +8,7 @@ use Rattle.acorn_model.specs.Calls.{sameBytes}
 use Rattle.acorn_model.specs.Machine.{checkClose, outputOf, phaseAllows, sizesRight, overLimit, outputShort, textEnded}
 use Rattle.session.specs.Contracts.{machineOf}
 use Rattle.session.proofs.NextSession.{closing-state}
-use Rattle.session.proofs.Replies.{Numbered, refuses, right-tag, wrong-tag}
+use Rattle.session.proofs.Replies.{Numbered, by-tests, refuses, right-tag, wrong-tag}
 use Rattle.session.proofs.Session.check_close.Statement.{statement}
 use Rattle.session.proofs.Session.check_close.Tie as tie
 
@@ -16,7 +16,7 @@ number-is : (c : tie.After-number) → let a = c .before .before .before .before
 unfolding machineOf phaseAllows sizesRight overLimit outputShort
 number-is c =
     let allowed = ap₂ _&&_ (c .before .before .is-checking .ensures) (c .before .takes-text .ensures) in
-    record { is = c .number .ensures _ _ (sym allowed) refl refl refl }
+    by-tests _ _ _ _ (c .number .ensures) (sym allowed) refl refl refl
 
 good-is : (c : tie.After-same-bytes) → let a = c .before .before .before .before .before .before .before .before .before .before .args in
     c .same-bytes .result ≡ sameBytes (a .tag .now) (tagOf (textEnded (machineOf (a .self)) .state))

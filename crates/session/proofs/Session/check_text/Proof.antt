@@ -12,7 +12,7 @@ use Rattle.acorn_model.specs.Machine.{checkText, outputOf, isChecking, isData, 
 use Rattle.acorn_model.proofs.Choices.{both}
 use Rattle.session.specs.Contracts.{machineOf}
 use Rattle.session.proofs.NextSession.{text-state}
-use Rattle.session.proofs.Replies.{Numbered, passes, refuses, writes}
+use Rattle.session.proofs.Replies.{Numbered, by-tests, passes, refuses, writes}
 use Rattle.session.proofs.Session.check_text.Statement.{statement}
 use Rattle.session.proofs.Session.check_text.Tie as tie
 
@@ -20,7 +20,7 @@ number-is : (c : tie.After-number) → let a = c .before .before .before .before
 unfolding machineOf phaseAllows sizesRight overLimit outputShort
 number-is c =
     let allowed = ap₂ _&&_ (c .before .before .before .is-checking .ensures) (c .before .before .takes-text .ensures) in
-    record { is = c .number .ensures _ _ (sym allowed) refl (sym (c .before .over-limit .ensures)) refl }
+    by-tests _ _ _ _ (c .number .ensures) (sym allowed) refl (sym (c .before .over-limit .ensures)) refl
 
 -- the piece of an accepted call
 fits : (c : tie.Else1) → let a = c .before .before .before .before .before .before .args in a .self .«text_bytes» + length (a .piece .now) ≤ byteLimit

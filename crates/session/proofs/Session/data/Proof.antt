@@ -10,13 +10,13 @@ use Rattle.acorn_model.specs.Calls.{writtenOver}
 use Rattle.acorn_model.specs.Machine.{dataCall, outputOf, phaseAllows, sizesRight, byteLimit, overLimit, outputShort, runThrough, countData, dataTaken, work}
 use Rattle.session.specs.Contracts.{machineOf, wrapped}
 use Rattle.session.proofs.NextSession.{stands-for}
-use Rattle.session.proofs.Replies.{Numbered, passes, refuses, writes}
+use Rattle.session.proofs.Replies.{Numbered, by-tests, passes, refuses, writes}
 use Rattle.session.proofs.Session.data.Statement.{statement}
 use Rattle.session.proofs.Session.data.Tie as tie
 
 number-is : (c : tie.After-number) → let a = c .before .before .before .before .args in Numbered (a .self) (dataCall (a .piece .now)) (c .number .result)
 unfolding machineOf phaseAllows sizesRight overLimit outputShort
-number-is c = record { is = c .number .ensures _ _ (sym (c .before .before .is-data .ensures)) refl (sym (c .before .over-limit .ensures)) refl }
+number-is c = by-tests _ _ _ _ (c .number .ensures) (sym (c .before .before .is-data .ensures)) refl (sym (c .before .over-limit .ensures)) refl
 
 -- the piece of an accepted call
 fits : (c : tie.Else1) → let a = c .before .before .before .before .before .args in a .self .«data_bytes» + length (a .piece .now) ≤ byteLimit

@@ -11,7 +11,7 @@ use Rattle.acorn_model.proofs.Outputs.{tagOf-length}
 use Rattle.acorn.specs.Runs.{tagOutput}
 use Rattle.session.specs.Contracts.{machineOf}
 use Rattle.session.proofs.NextSession.{closing-state}
-use Rattle.session.proofs.Replies.{Numbered, passes, refuses, writes}
+use Rattle.session.proofs.Replies.{Numbered, by-tests, passes, refuses, writes}
 use Rattle.session.proofs.Session.seal_close.Statement.{statement}
 use Rattle.session.proofs.Session.seal_close.Tie as tie
 
@@ -19,7 +19,7 @@ number-is : (c : tie.After-number) → let a = c .before .before .before .before
 unfolding machineOf phaseAllows sizesRight overLimit outputShort
 number-is c =
     let allowed = ap₂ _&&_ (c .before .before .is-sealing .ensures) (c .before .takes-text .ensures) in
-    record { is = c .number .ensures _ _ (sym allowed) refl refl refl }
+    by-tests _ _ _ _ (c .number .ensures) (sym allowed) refl refl refl
 
 is-sealing-requires : tie.Need-is-sealing-requires
 is-sealing-requires c κs = search needs

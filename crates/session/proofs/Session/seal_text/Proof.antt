@@ -1,28 +1,27 @@
 -- `Session::seal_text` meets its contract.
 use mathlib.Core.Path.{refl, sym, ap₂, _∙_}
-use mathlib.Core.Bool.{true, false, not, _&&_, _||_}
+use mathlib.Core.Bool.{true, false, _&&_, _||_}
 use Prim.Native.Nat.{_+_}
 use native.Mathlib.Omega.{arith}
 use borrow.Author.Needs.{needs}
 use borrow.Author.Tests.{ltb-false}
 use lib.Dec.{ltb}
 use lib.ListN.{length}
-use Rattle.acorn_model.specs.Bits.{_if_else_}
 use Rattle.acorn_model.specs.Calls.{accepted}
 use Rattle.acorn_model.specs.Machine.{sealText, outputOf, isData, isText, phaseAllows, sizesRight, byteLimit, overLimit, outputShort, dataEnded, textTaken, work}
 use Rattle.acorn_model.proofs.Outputs.{textOut-length}
-use Rattle.session.specs.Contracts.{machineOf}
+use Rattle.session.specs.Contracts.{machineOf, refusalBy}
 use Rattle.session.proofs.NextSession.{text-state, sealed-output, sealing-only}
 use Rattle.session.proofs.Replies.{Numbered, by-tests, passes, refuses, writes}
 use Rattle.session.proofs.Session.seal_text.Statement.{statement}
 use Rattle.session.proofs.Session.seal_text.Tie as tie
 
 number-is : (c : tie.After-over-limit) → let a = c .before .before .before .before .before .args in let allowed = c .before .before .is-sealing .result && c .before .takes-text .result in
-    Numbered (a .self) (sealText (a .piece .now) (a .out .now)) (1 if not allowed else 5 if c .over-limit .result else 6 if ltb (length (a .out .now)) (length (a .piece .now)) else accepted)
+    Numbered (a .self) (sealText (a .piece .now) (a .out .now)) (refusalBy allowed true (c .over-limit .result) (ltb (length (a .out .now)) (length (a .piece .now))))
 unfolding machineOf phaseAllows sizesRight overLimit outputShort
 number-is c =
     let allowed = ap₂ _&&_ (c .before .before .is-sealing .ensures) (c .before .takes-text .ensures) in
-    by-tests _ true _ _ (sym allowed) refl (sym (c .over-limit .ensures)) refl
+    by-tests _ true _ _ refl (sym allowed) refl (sym (c .over-limit .ensures)) refl
 
 -- no number applies to an accepted call
 none-applies : (c : tie.Else3) → let a = c .before .before .before .before .before .before .before .before .args in Numbered (a .self) (sealText (a .piece .now) (a .out .now)) accepted
