@@ -7,12 +7,14 @@ use Rattle.acorn_model.specs.Machine.{Machine, fresh, call as machineCall}
 use Rattle.tape_model.specs.Writer.{PlainWriter, freshWriter, writerCall}
 use Rattle.session.specs.declared.Reply.{Reply as SessionReply}
 use Rattle.session.specs.Contracts.{machineOf, outcomeOf, wrappedMachine, wrappedOutcome, Called}
+use Rattle.session.specs.Words.{sessionFor}
+use Rattle.session.proofs.WordsBack.{session-clear, session-stands}
 use Rattle.tape.specs.declared.WriterReply.{WriterReply}
 use Rattle.tape.specs.Contracts.{writerOf, wrappedWriter, wrappedWriterOutcome, WriterCalled}
 use Rattle.tape.specs.Contracts as tape
 use Rattle.demands.specs.Played.{Played, none, call}
 use Rattle.demands.specs.Examples.{SessionReplies, WriterReplies, SessionsExist, WritersExist}
-use Rattle.demands.proofs.Standing.{session-clear, call-clear, sessionOf, stands, answerOf, answers, writer-call-clear, writerFor, writer-stands}
+use Rattle.demands.proofs.Standing.{call-clear, answerOf, answers, writer-call-clear, writerFor, writer-stands}
 
 module _ {S C R : Type 0} (next : R → S) (reply : R → Reply Work) (Called : S → C → R → List ℕ → Type 0)
     (replies : (s : S) (c : C) → (r : R) × (out : List ℕ) × Called s c r out) where
@@ -30,15 +32,15 @@ pub session-replies : SessionReplies
 unfolding outcomeOf wrappedOutcome wrappedMachine
 session-replies s c =
     let o : Outcome Machine Work = wrappedOutcome (machineCall (machineOf s) c) in
-    let next = stands (o .next) (call-clear (machineOf s) c (session-clear s)) in
+    let next = session-stands (o .next) (call-clear (machineOf s) c (session-clear s)) in
     let answer = answers (o .answer) in
-    (record { answer = answerOf (o .answer); session = sessionOf (o .next) }, o .out, λ i. record { next = next i; answer = answer i; out = o .out })
+    (record { answer = answerOf (o .answer); session = sessionFor (o .next) }, o .out, λ i. record { next = next i; answer = answer i; out = o .out })
 
 pub sessions-exist : SessionsExist
 unfolding fresh
 sessions-exist kind cs =
-    let p = played (λ (r : SessionReply). r .session) (λ (r : SessionReply). answerReply (r .answer)) Called session-replies (sessionOf (fresh kind)) cs in
-    (p .0, p .1, record { first = sessionOf (fresh kind); isFresh = stands (fresh kind) (λ q. refl); played = p .2 }, p .3)
+    let p = played (λ (r : SessionReply). r .session) (λ (r : SessionReply). answerReply (r .answer)) Called session-replies (sessionFor (fresh kind)) cs in
+    (p .0, p .1, record { first = sessionFor (fresh kind); isFresh = session-stands (fresh kind) (λ q. refl); played = p .2 }, p .3)
 
 -- ## Writers
 
