@@ -2,12 +2,12 @@
 use mathlib.Core.Path.{_≡_}
 use mathlib.Core.Bool.{true}
 use mathlib.Core.List.{List, [], _∷_, _++_}
-use Prim.Native.Nat.{ℕ, _+_, _≤_}
+use Prim.Native.Nat.{ℕ, _≤_}
 use lib.ListN.{length}
 use Rattle.acorn_model.specs.declared.Kind.the-variants.{Sealing}
 use Rattle.acorn_model.specs.Calls.{done, Work, Entry, entries, handedOn}
 use Rattle.acorn_model.specs.Stretches.{tagLength}
-use Rattle.acorn_model.specs.Machine.{fresh, Call, keyLength, call}
+use Rattle.acorn_model.specs.Machine.{fresh, keyLength, call}
 use Rattle.acorn_model.specs.Lists.{logOf}
 use Rattle.tape_model.specs.declared.Ticket.{Ticket}
 use Rattle.tape_model.specs.declared.Head.{Head}

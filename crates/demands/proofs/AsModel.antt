@@ -1,6 +1,6 @@
 -- What is played by contracts that say of each call what a model does is what that model does over the whole list.
 use mathlib.Core.Path.{_≡_, refl, sym, ap, _∙_, subst}
-use mathlib.Core.List.{List, [], _∷_}
+use mathlib.Core.List.{List, _∷_}
 use Prim.Native.Nat.{ℕ}
 use Rattle.acorn_model.specs.Calls.{Reply, Work, Outcome, Entry, callsOf, entries, handedOn}
 use Rattle.demands.specs.Played.{Played, none, call}

@@ -1,8 +1,6 @@
 -- Every list of at most 5,000 valid tickets is written by the writer.
-use mathlib.Core.Path.{_≡_, sym, ap, _∙_}
+use mathlib.Core.Path.{sym, ap, _∙_}
 use mathlib.Core.List.{List}
-use Prim.Native.Nat.{ℕ}
-use Rattle.acorn_model.specs.Calls.{callsOf}
 use Rattle.tape_model.specs.Writer.{PlainWriter, WriterCall}
 use Rattle.tape_model.specs.WriterLists.{WriterLog}
 use Rattle.call_lists.specs.WriterLists.{tapeCalls, writerAfter, writerLogFrom}

@@ -1,7 +1,7 @@
 -- Whole messages and tapes: every call has an answer, and there are openings that are answered with 7.
 use mathlib.Core.Path.{_≡_, refl, sym, _∙_}
 use mathlib.Core.Bool.{Bool, true, false}
-use mathlib.Core.List.{List, [], _++_}
+use mathlib.Core.List.{List, []}
 use Prim.Native.Nat.{ℕ, _-_}
 use native.Mathlib.Omega.{arith}
 use lib.ListN.{length}
@@ -19,7 +19,7 @@ use Rattle.tape_model.specs.Ticket.{packHead, unpackHead}
 use Rattle.tape_model.specs.Tape.{ticketsLength, tapeLength, openTape}
 use Rattle.tape_model.specs.Tape as tape
 use Rattle.demands.specs.Messages.{Seals, OpensTo}
-use Rattle.demands.specs.Examples.{someHead, MessageExamples, TapeSeven}
+use Rattle.demands.specs.Examples.{MessageExamples, TapeSeven}
 
 writtenOf : Reply ℕ → Written
 writtenOf (refused n) = Refused n

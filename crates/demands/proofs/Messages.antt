@@ -1,20 +1,18 @@
 -- Demand 2 on whole messages, from the contracts and the laws of the definitions.
-use mathlib.Core.Path.{_≡_, refl, sym, ap, ap₂, _∙_}
+use mathlib.Core.Path.{_≡_, sym, ap, ap₂, _∙_}
 use mathlib.Core.Bool.{Bool, false, not}
 use mathlib.Core.List.{List, _++_}
-use mathlib.Core.Logic.{_↔_}
-use Prim.Native.Nat.{ℕ, _+_, _≤_}
+use Prim.Native.Nat.{ℕ}
 use lib.ListN.{length}
-use Rattle.acorn_model.specs.declared.Written.{Written}
-use Rattle.acorn_model.specs.Bits.{Bits, AreBytes, _if_else_, bitsIn, bytes}
+use Rattle.acorn_model.specs.Bits.{Bits, _if_else_, bitsIn, bytes}
 use Rattle.acorn_model.specs.Stretches.{tagLength}
 use Rattle.acorn_model.specs.Paper.{ciphertext, tag}
-use Rattle.acorn_model.specs.Calls.{Reply, done, refused, unlessRefused, writtenReply, writtenOver}
-use Rattle.acorn_model.specs.Message.{resultOf, sealed, tagMatches, opened, tagRefusal, openRefusal, sealMessage, openMessage}
-use Rattle.acorn_model.specs.Laws.{ByPaper, WithinLimits}
+use Rattle.acorn_model.specs.Calls.{done, refused, unlessRefused, writtenReply, writtenOver}
+use Rattle.acorn_model.specs.Message.{resultOf, sealed, tagMatches, opened, tagRefusal, openRefusal, openMessage}
+use Rattle.acorn_model.specs.Laws.{ByPaper}
 use Rattle.acorn_model.proofs.Messages.{Openable, open-passed}
 use Rattle.acorn_model.proofs.Proved.{paper-computed, message-laws}
-use Rattle.demands.specs.Messages.{Seals, OpensTo, MessageDemand}
+use Rattle.demands.specs.Messages.{MessageDemand}
 
 module _ (key nonce «data» : List ℕ) where
   -- the paper's ciphertext and tag are the sealed bytes

@@ -1,7 +1,7 @@
 -- Demand 1, from the contracts.
 use mathlib.Core.Path.{_≡_, refl, sym, ap, _∙_}
 use mathlib.Core.Bool.{Bool, true, false, not, _&&_}
-use mathlib.Core.List.{List, []}
+use mathlib.Core.List.{List}
 use Prim.Native.Nat.{ℕ, zero, suc, _*_, _≤_}
 use native.Mathlib.Omega.{arith}
 use lib.Dec.{ltb, eqb}
@@ -12,11 +12,10 @@ use Rattle.acorn_model.specs.Stretches.{tagOf}
 use Rattle.acorn_model.specs.declared.Phase.the-variants.{Closed}
 use Rattle.acorn_model.specs.Calls.{Reply, refused, done, Work, Outcome, accepted, sameBytes, answerReply, unlessRefused, refusedWith}
 use Rattle.acorn_model.specs.Machine.{Machine, Call, begin, dataCall, sealText, checkText, sealClose, checkClose, outputOf, keyLength, refusal, wrote, answered, verdict, textEnded, closed, enter, work, call}
-use Rattle.acorn_model.specs.Lists.{Ended}
 use Rattle.acorn_model.specs.Message.{resultOf, tagMatches}
 use Rattle.tape_model.specs.declared.OpenedTape.{OpenedTape}
 use Rattle.tape_model.specs.Ticket.{ticketLength, unpackHead}
-use Rattle.tape_model.specs.Tape.{nonceOf, isRefused, Totals, tapeLength, headBytes, sealedBytes, ticketCount, openRefusal, openTape, openedReply}
+use Rattle.tape_model.specs.Tape.{nonceOf, isRefused, Totals, tapeLength, headBytes, sealedBytes, ticketCount, openRefusal, openTape}
 use Rattle.tape_model.specs.Writer.{PlainWriter, WriterCall, start, add, finish, onAnswer, passedOn, started, writerCall}
 use Rattle.tape_model.specs.Writer as plain
 use Rattle.call_lists.proofs.Refusals.{by-number, never-7}

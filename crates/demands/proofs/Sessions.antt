@@ -1,9 +1,9 @@
 -- Demand 3 on sessions, from the contracts of the methods and from what the machine is after a list.
-use mathlib.Core.Path.{_≡_, refl, sym, ap, ap₂, _∙_, subst}
-use mathlib.Core.List.{List, []}
+use mathlib.Core.Path.{_≡_, refl, sym, ap, _∙_, subst}
+use mathlib.Core.List.{List}
 use Prim.Native.Nat.{ℕ}
 use Rattle.acorn_model.specs.declared.Kind.{Kind}
-use Rattle.acorn_model.specs.Calls.{Reply, Work, Outcome, answerReply, Entry, callsOf, entries, handedOn}
+use Rattle.acorn_model.specs.Calls.{answerReply, Entry, callsOf, entries, handedOn}
 use Rattle.acorn_model.specs.Machine.{Machine, Call, fresh, call}
 use Rattle.acorn_model.specs.Lists.{Log, logOf, Ended, Alike}
 use Rattle.call_lists.specs.MachineLists.{machineAfter, logFrom, endedSteps}

@@ -1,9 +1,9 @@
 -- Demand 3 on the tape writer, from the contracts of its methods and from what the plain writer is after a list.
-use mathlib.Core.Path.{_≡_, refl, sym, ap, _∙_, subst}
+use mathlib.Core.Path.{_≡_, sym, ap, _∙_, subst}
 use mathlib.Core.List.{List, [], _∷_, _++_}
 use Prim.Native.Nat.{ℕ, _<_, _^_}
 use Rattle.acorn_model.specs.declared.Kind.the-variants.{Sealing}
-use Rattle.acorn_model.specs.Calls.{Reply, Work, Outcome, answerReply, refusedWith, Entry, callsOf, entries, handedOn}
+use Rattle.acorn_model.specs.Calls.{Work, Outcome, answerReply, refusedWith, Entry, callsOf, entries, handedOn}
 use Rattle.acorn_model.specs.Machine.{Machine, fresh, Call, sealText, sealClose, work as machineWork, call}
 use Rattle.acorn_model.specs.Lists.{logOf}
 use Rattle.tape_model.specs.declared.WriterPhase.{WriterPhase}
@@ -19,7 +19,7 @@ use Rattle.call_lists.proofs.WriterReached.{WriterReached, fresh-writer-reached
 use Rattle.call_lists.proofs.WriterAccepts.{MachinePassed, machine-passed, passedTo, comesTo, accepted-work, startedMachine}
 use Rattle.call_lists.proofs.WriterKept.{writer-kept}
 use Rattle.call_lists.proofs.WriterLists.{writer-lists}
-use Rattle.session.specs.Contracts.{wrapped, wrappedMachine, wrappedReply, wrappedOutcome}
+use Rattle.session.specs.Contracts.{wrapped, wrappedReply, wrappedOutcome}
 use Rattle.session.proofs.Wrapping.{within, call-within}
 use Rattle.tape.specs.declared.Writer.{Writer}
 use Rattle.tape.specs.declared.WriterReply.{WriterReply}

@@ -1,11 +1,10 @@
 -- Demand 3 on sessions: every list of begin, data, text and close calls from a fresh session, sealing or checking, refused calls and empty pieces
 -- among them.
 use mathlib.Core.Path.{_≡_}
-use mathlib.Core.List.{List, []}
-use Prim.Native.Nat.{ℕ}
+use mathlib.Core.List.{List}
 use Rattle.acorn_model.specs.declared.Kind.{Kind}
-use Rattle.acorn_model.specs.Calls.{Reply, Work, answerReply, Entry, callsOf, entries, handedOn}
-use Rattle.acorn_model.specs.Machine.{Machine, Call, fresh, call}
+use Rattle.acorn_model.specs.Calls.{answerReply, Entry, callsOf, entries, handedOn}
+use Rattle.acorn_model.specs.Machine.{Call, fresh, call}
 use Rattle.acorn_model.specs.Lists.{logOf, Ended, Alike}
 use Rattle.call_lists.specs.MachineLists.{endedSteps}
 use Rattle.session.specs.declared.Session.{Session}

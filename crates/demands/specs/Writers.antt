@@ -5,7 +5,7 @@ use mathlib.Core.List.{List, [], _∷_, _++_}
 use Prim.Native.Nat.{ℕ, _≤_}
 use lib.ListN.{length}
 use Rattle.acorn_model.specs.declared.Kind.the-variants.{Sealing}
-use Rattle.acorn_model.specs.Calls.{Reply, done, Work, answerReply, Entry, callsOf, entries, handedOn}
+use Rattle.acorn_model.specs.Calls.{answerReply, Entry, callsOf, entries, handedOn}
 use Rattle.acorn_model.specs.Stretches.{tagLength}
 use Rattle.acorn_model.specs.Machine.{fresh, keyLength, call}
 use Rattle.acorn_model.specs.Lists.{logOf}

@@ -1,15 +1,14 @@
 -- A message's ciphertext and tag by numbers that compute.
-use mathlib.Core.Path.{_≡_, refl, sym, ap, _∙_}
-use mathlib.Core.Bool.{Bool, true, false}
+use mathlib.Core.Path.{_≡_, sym, ap, _∙_}
+use mathlib.Core.Bool.{Bool, false}
 use mathlib.Core.List.{List}
 use Prim.Native.Nat.{ℕ, _+_, _-_, _*_, _<_}
 use native.Mathlib.Omega.{arith}
 use lib.ListN.{length}
 use Rattle.acorn_model.specs.Bits.{Bits, _⊕_, bit, bitsIn, number, bytes}
-use Rattle.acorn_model.specs.Step.{run, keystreamBit}
+use Rattle.acorn_model.specs.Step.{run}
 use Rattle.acorn_model.specs.Stretches.{Stretch, tagLength, tagBits, zeros, start, dataPiece, dataEnd, textPiece, textEnd, final, inputs, through, keystream, textOut, tagOf, afterData, beforeFinal}
 use Rattle.acorn_model.specs.Paper.{ciphertext, tag}
-use Rattle.acorn_model.proofs.Runs.{run-add}
 use Rattle.acorn_model.proofs.Numbers.{number-bit}
 use Rattle.acorn_model.proofs.Bytes.{bytes-same}
 use Rattle.acorn_model.proofs.States.{Same, same-keystreamBit}

@@ -1,8 +1,8 @@
 -- No listing is longer than 190,054 bytes: a head's line has at most 32, a ticket's line 38, and the line of totals 22.
 use mathlib.Core.Path.{_≡_, refl, ap, subst, _∙_}
-use mathlib.Core.Bool.{Bool, true, false, not, _&&_}
+use mathlib.Core.Bool.{Bool, true, false, not}
 use mathlib.Core.List.{List, [], _∷_, _++_}
-use Prim.Native.Nat.{ℕ, zero, suc, _+_, _-_, _*_, _/_, _%_, _^_, _≤_, _<_}
+use Prim.Native.Nat.{ℕ, zero, suc, _+_, _*_, _/_, _%_, _^_, _≤_, _<_}
 use native.Mathlib.Omega.{arith}
 use lib.Dec.{eqb, ltb}
 use lib.ListN.{length, take, drop, replicate, length-append}
@@ -13,7 +13,7 @@ use Rattle.tape_model.specs.declared.Ticket.{Ticket}
 use Rattle.tape_model.specs.declared.Head.{Head}
 use Rattle.tape_model.specs.Format.{widths, inRanges, unpack}
 use Rattle.tape_model.specs.Ticket.{form1, ticketLength, ticketOf, ordered, valuesRule, net, unpackTicket, headFormat, headLength, headOf, unpackHead}
-use Rattle.tape_model.specs.Tape.{ticketLimit, unpackTickets, isRefused, ticketsIn, totalNet, headBytes, ticketCount, plainBytes, openRefusal}
+use Rattle.tape_model.specs.Tape.{ticketLimit, unpackTickets, ticketsIn, totalNet, headBytes, ticketCount, plainBytes, openRefusal}
 use Rattle.tape_model.specs.Listing.{space, lineEnd, wordTape, wordTotal, wordRefused, decimalBelow, decimal, numbers, headLine, ticketLine, ticketLines, totalLine, refusedLine, listed, listingUnless, listing}
 use Rattle.tape_model.proofs.Ranges.{in-ranges}
 use Rattle.tape_model.proofs.Opening.{size, tickets-good}

@@ -1,5 +1,5 @@
 -- A listing from its parts: the head's line, the tickets' lines and the line of totals, each behind the one before.
-use mathlib.Core.Path.{_≡_, ap, ap₂, _∙_}
+use mathlib.Core.Path.{_≡_, ap, ap₂}
 use mathlib.Core.List.{List, [], _∷_, _++_}
 use Prim.Native.Nat.{ℕ, _/_, _≤_}
 use native.Mathlib.Omega.{arith}
@@ -7,7 +7,7 @@ use lib.ListN.{length, length-append}
 use Rattle.acorn_model.specs.Calls.{done}
 use Rattle.tape_model.specs.declared.Ticket.{Ticket}
 use Rattle.tape_model.specs.declared.Head.{Head}
-use Rattle.tape_model.specs.Tape.{unpackTickets, ticketsIn}
+use Rattle.tape_model.specs.Tape.{ticketsIn}
 use Rattle.tape_model.specs.Listing.{lineEnd, wordTotal, numbers, headLine, totalLine, listed}
 use Rattle.listing.specs.Contracts.{PlainTickets, unpacked, linesOf, totalsLine}
 use Rattle.tape_model.proofs.Unpacking.{unpacked-count, told}

@@ -1,5 +1,4 @@
 -- Document 01, "Ticket, head, tape", on the listing: the text that the listing program prints for a key and a tape, as ASCII bytes.
-use mathlib.Core.Bool.{Bool}
 use mathlib.Core.List.{List, [], _∷_, _++_}
 use Prim.Native.Nat.{ℕ, zero, suc, _+_, _/_, _%_}
 use lib.Dec.{ltb}

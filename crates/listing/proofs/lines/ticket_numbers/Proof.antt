@@ -2,9 +2,6 @@ use borrow.Author.Needs.{needs}
 use Rattle.listing.specs.Contracts.{ticketNumbers}
 use Rattle.listing.proofs.lines.ticket_numbers.Statement.{statement}
 use Rattle.listing.proofs.lines.ticket_numbers.Tie as tie
-use Rattle.listing.proofs.lines.ticket_numbers.Reads as reads
-use Rattle.listing.proofs.lines.ticket_numbers.Lts as lts
-use Rattle.ticket.proofs.net.Reads as net-reads
 
 -- src/lines.rt:46:9
 cast-t2 : tie.Need-cast-t2
