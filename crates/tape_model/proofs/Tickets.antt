@@ -84,10 +84,6 @@ pub head-length : (h : Head) → length (packHead h) ≡ headLength
 unfolding packHead
 head-length h = refl
 
-pub head-bytes : (h : Head) → AreBytes (packHead h)
-unfolding packHead
-head-bytes h = pack-bytes (widths headFormat) headLength (headValues h)
-
 -- ## All of it
 
 pub ticket-laws : TicketLaws
