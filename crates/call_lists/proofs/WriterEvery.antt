@@ -7,7 +7,7 @@ use native.Mathlib.Omega.{arith}
 use lib.ListN.{length}
 use borrow.Author.Tests.{le-ltb, lt-leb, eq-eqb}
 use Rattle.acorn_model.specs.Stretches.{tagLength}
-use Rattle.acorn_model.specs.Calls.{done, Work, Outcome, unlessRefused, entries, handedOn}
+use Rattle.acorn_model.specs.Calls.{done, Work, Outcome, entries, handedOn}
 use Rattle.acorn_model.specs.Machine.{keyLength, answered, wrote}
 use Rattle.acorn_model.specs.Machine.{work as machineWork}
 use Rattle.acorn_model.specs.Lists.{ifAccepted}
@@ -16,32 +16,19 @@ use Rattle.tape_model.specs.declared.Head.{Head}
 use Rattle.tape_model.specs.declared.WriterPhase.the-variants.{Open, Closed}
 use Rattle.tape_model.specs.Ticket.{ticketLength, headLength, headRule}
 use Rattle.tape_model.specs.Tape.{ticketLimit, tapeOf}
-use Rattle.tape_model.specs.Writer.{PlainWriter, freshWriter, WriterCall, start, add, finish, phaseAllows, keyRight, headRight, ticketRight, tapeFull, outputShort, refusal, work, writerCall}
-use Rattle.tape_model.specs.WriterLists.{Started, startOf, ticketsOf, WriterLog, writerLog}
+use Rattle.tape_model.specs.Writer.{PlainWriter, freshWriter, WriterCall, start, add, finish, phaseAllows, keyRight, headRight, ticketRight, tapeFull, outputShort, writerCall}
+use Rattle.tape_model.specs.WriterLists.{Started, startOf, ticketsOf, writerLog}
 use Rattle.tape_model.specs.Laws.{Valid}
 use Rattle.call_lists.specs.WriterLists.{writerLogFrom, adds, tapeCalls, EveryTapeWritten}
-use Rattle.call_lists.proofs.Refusals.{WriterPassed}
-use Rattle.call_lists.proofs.WriterReached.{WriterReached, fresh-writer-reached}
-use Rattle.call_lists.proofs.WriterAccepts.{machine-passed, comesTo, accepted-work}
-use Rattle.call_lists.proofs.WriterKept.{writer-kept}
+use Rattle.tape_model.proofs.Refusals.{WriterPassed}
+use Rattle.call_lists.proofs.WriterAccepts.{comesTo}
+use Rattle.call_lists.proofs.WriterRuns.{HasRun, fresh-has-run, runs-on, comes}
 use Rattle.call_lists.proofs.WriterLists.{writer-lists}
 
 -- ## A call that passes
 
--- a plain writer that a list of calls led to
-abbrev HasRun : PlainWriter → Type 0
-HasRun w = (log : WriterLog) × WriterReached w log
-
-works : (w : PlainWriter) (c : WriterCall) → WriterPassed w c → writerCall w c ≡ work w c
-unfolding writerCall unlessRefused refusal
-works w c p = rw (p .phase, p .key, p .head, p .ticket, p .full, p .output)
-
-module _ (w : PlainWriter) (c : WriterCall) (h : HasRun w) (p : WriterPassed w c) where
-  comes : writerCall w c ≡ comesTo w c
-  comes = works w c p ∙ accepted-work w c (machine-passed w (h .0) c (h .1) p)
-
-  runs-on : HasRun (comesTo w c .next)
-  runs-on = subst (λ (o : Outcome PlainWriter Work). HasRun (o .next)) comes (_, writer-kept w c (h .0) (h .1))
+passes-on : (w : PlainWriter) (c : WriterCall) → HasRun w → WriterPassed w c → HasRun (comesTo w c .next)
+passes-on w c h p = subst (λ (o : Outcome PlainWriter Work). HasRun (o .next)) (comes w c h p) (runs-on w c h)
 
 -- ## The list
 
@@ -78,7 +65,7 @@ module _ (out : List ℕ) (room : tagLength ≤ length out) where
         full = lt-leb ticketLimit (w .tickets) (omega arith);
         output = le-ltb (length out) ticketLength (omega arith);
       } in
-      let rest = from-open (comesTo w (add t out) .next) ts (runs-on w (add t out) h p) refl (v .1) (omega arith) in
+      let rest = from-open (comesTo w (add t out) .next) ts (passes-on w (add t out) h p) refl (v .1) (omega arith) in
       first w (add t out) (adds ts out ++ (finish out ∷ [])) [] ts _ h p refl rest
 
   from-fresh : (key : List ℕ) (head : Head) (ts : List Ticket) → length key ≡ keyLength → headRule head ≡ true → Valid ts → length ts ≤ ticketLimit
@@ -86,7 +73,7 @@ module _ (out : List ℕ) (room : tagLength ≤ length out) where
   unfolding entries handedOn writerLog startOf ticketsOf freshWriter phaseAllows keyRight headRight ticketRight tapeFull outputShort
   from-fresh key head ts k r v l =
       let c : WriterCall = start key head out in
-      let h : HasRun freshWriter = (_, fresh-writer-reached) in
+      let h = fresh-has-run in
       let p : WriterPassed freshWriter c = record {
         phase = refl;
         key = eq-eqb (length key) keyLength k;
@@ -95,7 +82,7 @@ module _ (out : List ℕ) (room : tagLength ≤ length out) where
         full = refl;
         output = le-ltb (length out) headLength (omega arith);
       } in
-      let rest = from-open (comesTo freshWriter c .next) ts (runs-on freshWriter c h p) refl v (omega arith) in
+      let rest = from-open (comesTo freshWriter c .next) ts (passes-on freshWriter c h p) refl v (omega arith) in
       first freshWriter c (adds ts out ++ (finish out ∷ [])) [] ts _ h p refl rest
 
 -- ## The claim

@@ -18,7 +18,7 @@ use Rattle.tape_model.specs.Ticket.{ticketLength, unpackHead}
 use Rattle.tape_model.specs.Tape.{nonceOf, isRefused, Totals, tapeLength, headBytes, sealedBytes, ticketCount, openRefusal, openTape}
 use Rattle.tape_model.specs.Writer.{PlainWriter, WriterCall, start, add, finish, onAnswer, passedOn, started, writerCall}
 use Rattle.tape_model.specs.Writer as plain
-use Rattle.call_lists.proofs.Refusals.{by-number, never-7}
+use Rattle.acorn_model.proofs.Refusals.{by-number, never-7}
 use Rattle.session.specs.declared.Session.{Session}
 use Rattle.session.specs.declared.Reply.{Reply as SessionReply}
 use Rattle.session.specs.Contracts.{machineOf, outcomeOf, wrappedMachine, wrappedReply, wrappedOutcome, Called}

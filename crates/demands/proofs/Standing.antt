@@ -19,7 +19,7 @@ use Rattle.acorn.specs.declared.State.{State}
 use Rattle.acorn.specs.Together.{stateOf}
 use Rattle.acorn.proofs.StateWords.{at-above, state-is}
 use Rattle.acorn.proofs.ClosedForm.{run-above}
-use Rattle.call_lists.proofs.Refusals.{by-number}
+use Rattle.acorn_model.proofs.Refusals.{by-number}
 use Rattle.session.specs.declared.Session.{Session}
 use Rattle.session.specs.Contracts.{machineOf}
 use Rattle.tape.specs.declared.Writer.{Writer}

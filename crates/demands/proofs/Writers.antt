@@ -14,10 +14,11 @@ use Rattle.tape_model.specs.Tape.{tapeOf}
 use Rattle.tape_model.specs.WriterLists.{Started, WriterLog, writerLog, headsOf}
 use Rattle.tape_model.specs.Laws.{TapeLaws}
 use Rattle.call_lists.specs.WriterLists.{writerLogFrom}
-use Rattle.call_lists.proofs.Refusals.{by-number, Passed, works, writer-passed}
-use Rattle.call_lists.proofs.WriterReached.{WriterReached, fresh-writer-reached, writer-small}
+use Rattle.acorn_model.proofs.Refusals.{by-number, Passed, works}
+use Rattle.tape_model.proofs.Refusals.{writer-passed}
+use Rattle.call_lists.proofs.WriterReached.{writer-small}
 use Rattle.call_lists.proofs.WriterAccepts.{MachinePassed, machine-passed, passedTo, comesTo, accepted-work, startedMachine}
-use Rattle.call_lists.proofs.WriterKept.{writer-kept}
+use Rattle.call_lists.proofs.WriterRuns.{HasRun, fresh-has-run, runs-on}
 use Rattle.call_lists.proofs.WriterLists.{writer-lists}
 use Rattle.session.specs.Contracts.{wrapped, wrappedReply, wrappedOutcome}
 use Rattle.session.proofs.Wrapping.{within, call-within}
@@ -27,7 +28,7 @@ use Rattle.tape.specs.Contracts.{writerOf, outcomeOf, wrappedWriter, wrappedWri
 use Rattle.demands.specs.Writers.{WriterList, WriterDemand}
 use Rattle.demands.proofs.AsModel.{as-model}
 
--- ## Counts that do not go round
+-- ## Counts that do not wrap around
 
 abbrev Small : PlainWriter → Type 0
 Small w = w .machine .counts .steps < 2 ^ 64
@@ -55,14 +56,6 @@ refused-within n w out h = λ i. record { next = record { machine = within (w .m
 
 -- ## One call
 
--- a plain writer that a list of calls led to
-record HasRun (w : PlainWriter) : Type 0 where
-  log : WriterLog
-  reached : WriterReached w log
-
-runs-on : (w : PlainWriter) (c : WriterCall) → HasRun w → HasRun (writerCall w c .next)
-runs-on w c h = record { log = _; reached = writer-kept w c (h .log) (h .reached) }
-
 small : (w : PlainWriter) → HasRun w → Small w
 small w h = writer-small w (h .log) (h .reached)
 
@@ -88,7 +81,7 @@ module _ (es : List (Entry WriterCall)) (e : Writer) (l : WriterList es e) where
   as-plain =
       subst (λ (w : PlainWriter). (es ≡ entries writerCall w (callsOf es)) × (writerOf e ≡ handedOn writerCall w (callsOf es))) (l .isFresh)
       (as-model (λ (r : WriterReply). r .writer) (λ (r : WriterReply). answerReply (r .answer)) WriterCalled writerCall writerOf HasRun says runs-on (l .first) e es
-      (subst HasRun (sym (l .isFresh)) (record { log = _; reached = fresh-writer-reached })) (l .played))
+      (subst HasRun (sym (l .isFresh)) fresh-has-run) (l .played))
 
   pub same-log : writerLogFrom (callsOf es) ≡ writerLog es
   same-log = ap writerLog (sym (as-plain .0))

@@ -8,3 +8,4 @@ pub mod Cases
 pub mod Unpacking
 pub mod Opening
 pub mod Listing
+pub mod Refusals

@@ -10,7 +10,8 @@ use Rattle.tape_model.specs.Tape.{ticketLimit}
 use Rattle.tape_model.specs.Writer.{add, outputOf, phaseAllows, keyRight, headRight, ticketRight, tapeFull, outputShort, refusal, work}
 use Rattle.tape.specs.Contracts.{writerOf}
 use Rattle.tape.proofs.Packed.{ticket-met, ticket-packed}
-use Rattle.tape.proofs.WriterCalls.{Passes, passes, refuses, accepts, passed, text-stopped}
+use Rattle.tape_model.proofs.Refusals.{WriterPassed}
+use Rattle.tape.proofs.WriterCalls.{passes, refuses, accepts, passed, text-stopped}
 use Rattle.tape.proofs.Writer.add.Statement.{statement}
 use Rattle.tape.proofs.Writer.add.Tie as tie
 
@@ -21,7 +22,7 @@ number-is c =
     c .number .ensures (writerOf (a .self)) (add (a .ticket) (a .out .now)) (sym (c .before .before .is-open .ensures)) refl refl
     (ticket-met (a .ticket) _ _ (c .before .before .before .packed .ensures) ∙ sym (c .before .is-done .ensures)) refl refl
 
-accepted : (c : tie.Else1) → let a = c .before .before .before .before .before .before .args in Passes (writerOf (a .self)) (add (a .ticket) (a .out .now))
+accepted : (c : tie.Else1) → let a = c .before .before .before .before .before .before .args in WriterPassed (writerOf (a .self)) (add (a .ticket) (a .out .now))
 accepted c =
     let a = c .before .before .before .before .before .before .args in
     passes (a .self) (add (a .ticket) (a .out .now)) (c .before .number .result) (number-is (c .before)) (c .if1 .left)
@@ -30,7 +31,7 @@ bytes-are : (c : tie.Else1) → let p = c .before .before .before .before in p .
 unfolding ticketRight
 bytes-are c =
     let p = c .before .before .before .before in
-    ticket-packed (p .before .before .args .ticket) _ _ (p .packed .ensures) (accepted c .ticketed)
+    ticket-packed (p .before .before .args .ticket) _ _ (p .packed .ensures) (accepted c .ticket)
 
 packed-requires : tie.Need-packed-requires
 packed-requires c κs = search needs
@@ -81,7 +82,7 @@ add-t24 : tie.Need-add-t24
 unfolding writerOf tapeFull
 add-t24 c =
     let accept = c .before .before .before .before .before .before .before .before .before .before in
-    omega (arith, leb-false ticketLimit (accept .before .before .before .before .before .before .args .self .tickets) (accepted accept .free))
+    omega (arith, leb-false ticketLimit (accept .before .before .before .before .before .before .args .self .tickets) (accepted accept .full))
 
 same-length-2 : tie.Need-same-length-2
 same-length-2 c = search needs
