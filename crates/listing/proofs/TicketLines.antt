@@ -17,9 +17,9 @@ use Rattle.tape_model.proofs.NextTicket.{enum as next-ticket}
 use Rattle.acorn_model.specs.Calls.{done}
 use Rattle.tape_model.specs.Tape.{ticketsLength, unpackTickets, isRefused, ticketsIn}
 use Rattle.tape_model.specs.Reader.{ticket, handedOut, readNext, nextReply}
-use Rattle.tape_model.specs.Listing.{lineEnd, decimal, numbers, ticketLine, ticketLines}
+use Rattle.tape_model.specs.Listing.{lineEnd, decimal, numbers, ticketNumbers, ticketLine, ticketLines}
 use Rattle.tape_model.proofs.Unpacking.{unpacked-count, unpacked-at, told}
-use Rattle.listing.specs.Contracts.{Wrote, ticketNumbers, unpacked, linesOf}
+use Rattle.listing.specs.Contracts.{Wrote, unpacked, linesOf}
 use Rattle.listing.proofs.Texts.{wrote-as, behind-start, behind-room, behind-wrote, behind-within}
 
 -- ## One line
@@ -29,7 +29,7 @@ module _ (position : ℕ) (t : Ticket) (ns out : List ℕ) (ns-are : ns ≡ tick
   rest = numbers ns ++ lineEnd
 
   parts : decimal position ++ rest ≡ ticketLine position t
-  unfolding ticketLine ticketNumbers
+  unfolding ticketLine
   parts = ap (λ (l : List ℕ). decimal position ++ (numbers l ++ lineEnd)) ns-are ∙ sym (append-assoc (decimal position) (numbers (ticketNumbers t)) lineEnd)
 
   parts-room : length (decimal position ++ rest) ≤ length out

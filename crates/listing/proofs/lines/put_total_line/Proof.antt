@@ -1,5 +1,4 @@
 use borrow.Author.Needs.{needs}
-use Rattle.listing.specs.Contracts.{totalsLine}
 use Rattle.listing.proofs.lines.put_total_line.Statement.{statement}
 use Rattle.listing.proofs.lines.put_total_line.Tie as tie
 
@@ -13,7 +12,6 @@ slice-aggregate-put-line-2 c = search needs
 
 -- src/lines.rt:38:5
 put-line-requires : tie.Need-put-line-requires
-unfolding totalsLine
 put-line-requires c κs = search needs
 
 -- src/lines.rt:33:1
@@ -22,7 +20,6 @@ same-length c = search needs
 
 -- src/lines.rt:33:1
 returns : tie.Need-returns
-unfolding totalsLine
 returns c = search needs
 
 pub put-total-line-spec : {M : Type 1} → statement M

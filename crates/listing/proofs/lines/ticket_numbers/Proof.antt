@@ -1,5 +1,4 @@
 use borrow.Author.Needs.{needs}
-use Rattle.listing.specs.Contracts.{ticketNumbers}
 use Rattle.listing.proofs.lines.ticket_numbers.Statement.{statement}
 use Rattle.listing.proofs.lines.ticket_numbers.Tie as tie
 
@@ -37,7 +36,6 @@ cast-t9 c = search needs
 
 -- src/lines.rt:42:1
 returns : tie.Need-returns
-unfolding ticketNumbers
 returns c = cc
 
 pub ticket-numbers-spec : {M : Type 1} → statement M
