@@ -23,7 +23,7 @@ tagBits = 8 * tagLength
 
 -- ## The rows
 
--- the message bits of start: key, nonce, and then the key's bits round and round, the first of these inverted
+-- the message bits of start: key, nonce, and then the key's bits over and over, the first of these inverted
 unfoldable pub startBit : List ℕ → List ℕ → Bits
 startBit key nonce i =
     bitsIn key i if ltb i 128 else

@@ -81,7 +81,7 @@ module _ (es : List (Entry WriterCall)) (e : Writer) (l : WriterList es e) where
   as-plain =
       subst (λ (w : PlainWriter). (es ≡ entries writerCall w (callsOf es)) × (writerOf e ≡ handedOn writerCall w (callsOf es))) (l .isFresh)
       (as-model (λ (r : WriterReply). r .writer) (λ (r : WriterReply). answerReply (r .answer)) WriterCalled writerCall writerOf HasRun says runs-on (l .first) e es
-      (subst HasRun (sym (l .isFresh)) fresh-has-run) (l .played))
+      (subst HasRun (sym (l .isFresh)) fresh-has-run) (l .calls))
 
   pub same-log : writerLogFrom (callsOf es) ≡ writerLog es
   same-log = ap writerLog (sym (as-plain .0))

@@ -10,13 +10,13 @@ use Rattle.call_lists.specs.MachineLists.{endedSteps}
 use Rattle.session.specs.declared.Session.{Session}
 use Rattle.session.specs.declared.Reply.{Reply as SessionReply}
 use Rattle.session.specs.Contracts.{machineOf, Called}
-use Rattle.demands.specs.Played.{Played}
+use Rattle.demands.specs.CallsMade.{CallsMade}
 
 -- a list of calls from a fresh session of this kind, which led to the session e
 pub record SessionList (kind : Kind) (es : List (Entry Call)) (e : Session) : Type 0 where
   pub first : Session
   pub isFresh : machineOf first ≡ fresh kind
-  pub played : Played {R = SessionReply} (λ r. r .session) (λ r. answerReply (r .answer)) Called first es e
+  pub calls : CallsMade {R = SessionReply} (λ r. r .session) (λ r. answerReply (r .answer)) Called first es e
 
 pub record SessionDemand : Type 0 where
   -- the session answers, writes and counts steps as the one-step machine does: over the whole list the answers and the outputs are the machine's, and

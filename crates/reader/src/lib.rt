@@ -52,7 +52,7 @@ pub struct Reader<'a> {
 }
 
 // What a call answered, and the reader after it.
-pub struct Handed<'a> {
+pub struct ReaderReply<'a> {
     pub reader: Reader<'a>,
     pub answer: NextTicket,
 }
@@ -66,11 +66,11 @@ impl<'a> Reader<'a> {
     }
 
     // Hands out the next ticket.
-    pub fn next(self) -> Handed<'a>
+    pub fn next(self) -> ReaderReply<'a>
         ensures { λ h. ⌜ NextCalled (self .entry) h ⌝ }
     {
         let read = read_at(self.bytes, self.position);
-        Handed {
+        ReaderReply {
             reader: Reader {
                 bytes: self.bytes,
                 position: read.position,
