@@ -6,10 +6,10 @@ use Prim.Native.Nat.{ℕ, _≤_}
 use borrow.Author.Tests.{le-ltb}
 use lib.ListN.{length}
 use Rattle.acorn_model.specs.Bits.{Bits}
-use Rattle.acorn_model.specs.Stretches.{through, zeros, start, textPiece, textOut, tagOf, tagLength}
+use Rattle.acorn_model.specs.Stretches.{through, zeros, start, textPiece, textOut}
 use Rattle.acorn_model.specs.Calls.{writtenOver}
 use Rattle.acorn_model.specs.Machine.{keyLength}
-use Rattle.acorn.specs.Runs.{TextRun, startState, tagOutput}
+use Rattle.acorn.specs.Runs.{TextRun, startState}
 use Rattle.acorn.proofs.FixedRuns.{start-all}
 
 module _ (opening : Bool) (S : Bits) (piece out : List ℕ) (S' : Bits) (out' : List ℕ) (room : length piece ≤ length out) (run : TextRun opening S piece out S' out') where
@@ -21,7 +21,3 @@ module _ (opening : Bool) (S : Bits) (piece out : List ℕ) (S' : Bits) (out' : 
 
 pub start-sized : (key nonce : List ℕ) → length key ≡ keyLength → length nonce ≡ keyLength → startState key nonce ≡ through (start key nonce) zeros
 start-sized key nonce k n = sym (start-all key nonce k n)
-
-pub tag-fits : (S : Bits) (out : List ℕ) → tagLength ≤ length out → tagOutput S out ≡ writtenOver (tagOf S) out
-unfolding tagOutput
-tag-fits S out room = ap (λ (t : Bool). cond t out (writtenOver (tagOf S) out)) (le-ltb (length out) tagLength room)

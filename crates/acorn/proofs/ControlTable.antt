@@ -59,13 +59,13 @@ module _ (i : ℕ) where
   pub cb-of-row : (stretch : Stretch) → i < rowOf stretch .steps → cbAt (firstStep stretch + i) ≡ rowOf stretch .cb
   cb-of-row stretch h = cb-in (firstStep stretch + i) stretch (in-stretch stretch h)
 
--- ## The seams
+-- ## The first steps
 
 -- each stretch begins where the one before it has run its steps
-pub seams : (key nonce : List ℕ) → (firstStep DataEnd ≡ firstStep Start + start key nonce .steps) × (firstStep TextEnd ≡ firstStep DataEnd + dataEnd .steps)
+pub first-steps : (key nonce : List ℕ) → (firstStep DataEnd ≡ firstStep Start + start key nonce .steps) × (firstStep TextEnd ≡ firstStep DataEnd + dataEnd .steps)
     × (firstStep Final ≡ firstStep TextEnd + textEnd .steps)
 unfolding firstStep
-seams key nonce = (refl, refl, refl)
+first-steps key nonce = (refl, refl, refl)
 
 -- data has the control bits of the step that follows it, the first of data end; and text those of the first of text end
 pub data-controls : (piece : List ℕ) (i : ℕ) → (dataPiece piece .ca i ≡ caAt (firstStep DataEnd)) × (dataPiece piece .cb ≡ cbAt (firstStep DataEnd))

@@ -7,9 +7,9 @@ use native.Mathlib.Omega.{arith}
 use lib.Bits.{bitOr, bitXor}
 use Rattle.acorn_model.specs.Bits.{Bits, _⊕_, bit}
 use Rattle.acorn.specs.Together.{_bits_then_}
-use Rattle.acorn_model.proofs.Numbers.{lt-or-ge, bit-shift}
+use Rattle.acorn_model.proofs.Numbers.{lt-or-ge, bit-shift, bit-mod}
 use Rattle.acorn.proofs.Sequences.{then-low, then-high, then-split}
-use Rattle.acorn.proofs.WordBits.{bit-xor, bit-or, bit-shl-low, bit-shl-high, bit-mod, bit-mod-above, bit-above, xor-false, or-false}
+use Rattle.acorn.proofs.WordBits.{bit-xor, bit-or, bit-shl-low, bit-shl-high, bit-mod-above, bit-above, xor-false, or-false}
 
 -- u moved up m places in a word of `width` bits
 module _ (width u m : ℕ) where
@@ -45,7 +45,8 @@ own-bits m n w r k b hr j h =
     bit-shift r m j ∙ hr (m + j) (omega arith) ∙ ap ((m + n) bits bit w then b) (omega arith) ∙ then-split m n (bit w) b (j + k)
     ∙ ap (λ (a : Bits). (n bits a then b) (j + k)) (fun-ext (λ y. sym (bit-shift w m y)))
 
--- Two registers in one word w of m + n bits, the upper one of n. r is w moved down k places with the bits of v above; k bits of u are added to those that leave the upper one.
+-- Two registers in one word w of m + n bits, the upper one of n. r is w moved down k places with the bits of v above; k bits of u are added to
+-- those that leave the upper one.
 module _ (m n w u v r k : ℕ) (hk : k ≤ m) (hr : (j : ℕ) → j < m + n → bit r j ≡ ((m + n) bits bit w then bit v) (j + k)) where
   abbrev upper : Bits
   upper = n bits (λ y. bit w (m + y)) then bit v

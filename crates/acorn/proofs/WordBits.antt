@@ -6,10 +6,10 @@ use Prim.Native.Nat.{ℕ, suc, _+_, _-_, _*_, _/_, _%_, _^_, _≤_, _<_}
 use native.Mathlib.Nat.{mod-lt, mod-eq-of-lt, div-eq-of-lt, mul-assoc, mul-div-cancel, lt-of-lt-of-le, zero-lt-suc}
 use native.Mathlib.Omega.{arith}
 use lib.Dec.{eqb}
-use lib.Pow.{pow-pos, pow-mono, pow-add, shl-shr, field, mod-mod-pow}
+use lib.Pow.{pow-pos, pow-mono, pow-add, shl-shr}
 use lib.Bits.{bitAnd, bitOr, bitXor, and-shr, or-shr, xor-shr, and-mod, or-mod, xor-mod, and-mask, shifted-even, xor-add-and}
 use Rattle.acorn_model.specs.Bits.{_⊕_, bit}
-use Rattle.acorn_model.proofs.Numbers.{zero-or-one, bit-shift}
+use Rattle.acorn_model.proofs.Numbers.{zero-or-one, bit-shift, bit-mod}
 
 -- an operation that works on each run of digits apart, by its table on digits
 module _ (op : ℕ → ℕ → ℕ) (f : Bool → Bool → Bool) (shr : (a b k : ℕ) → op a b / 2 ^ k ≡ op (a / 2 ^ k) (b / 2 ^ k)) (low : (a b k : ℕ) → op a b % 2 ^ k ≡ op (a % 2 ^ k) (b % 2 ^ k))
@@ -46,14 +46,7 @@ bit-shl-low w k j h =
     ∙ ap (λ (x : ℕ). x / 2 ^ j) (sym (mul-assoc w (2 ^ suc (k - suc j)) (2 ^ j))) ∙ mul-div-cancel (w * 2 ^ suc (k - suc j)) (pow-pos j))
     ∙ ap (λ (x : ℕ). eqb x 1) (shifted-even w (k - suc j))
 
--- the low digits, and those above a number
-pub bit-mod : (w n j : ℕ) → j < n → bit (w % 2 ^ n) j ≡ bit w j
-unfolding bit
-bit-mod w n j h =
-    ap (λ (x : ℕ). eqb (w % 2 ^ x / 2 ^ j % 2) 1) (omega arith)
-    ∙ ap (λ (x : ℕ). eqb (x % 2) 1) (field w ((n - suc j) + 1) j)
-    ∙ ap (λ (x : ℕ). eqb x 1) (mod-mod-pow (w / 2 ^ j) (n - suc j) 1)
-
+-- the digits above a number
 pub bit-above : (w n j : ℕ) → w < 2 ^ n → n ≤ j → bit w j ≡ false
 unfolding bit
 bit-above w n j h l = ap (λ (x : ℕ). eqb (x % 2) 1) (div-eq-of-lt (lt-of-lt-of-le h (pow-mono l)))

@@ -1,4 +1,5 @@
--- What the runs over strings come to, for every argument. Where an output is too short, or a key or nonce has not its size, no step is run and nothing is written.
+-- What the runs over strings come to, for every argument. Where an output is too short, or a key or nonce has not its size, no step is run and
+-- nothing is written.
 use mathlib.Core.Path.{_≡_}
 use mathlib.Core.Bool.{Bool}
 use mathlib.Core.List.{List}

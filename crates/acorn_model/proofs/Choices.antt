@@ -1,4 +1,5 @@
--- What tests tell: two that hold together, two of which neither holds, and a choice by a test of numbers, `a if ltb i n else b` or `a if eqb i n else b`.
+-- What tests tell: two that hold together, two of which neither holds, and a choice by a test of numbers, `a if ltb i n else b` or
+-- `a if eqb i n else b`.
 use mathlib.Core.Path.{_≡_, refl, sym}
 use mathlib.Core.Bool.{Bool, true, false, _&&_, _||_, false≢true}
 use Prim.Native.Nat.{ℕ, _≤_, _<_}

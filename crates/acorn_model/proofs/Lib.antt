@@ -1,4 +1,5 @@
 pub mod Choices
+pub mod Refusals
 pub mod Numbers
 pub mod Bytes
 pub mod Runs

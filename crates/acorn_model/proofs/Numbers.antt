@@ -2,11 +2,11 @@
 use mathlib.Core.Path.{_≡_, refl, sym, ap, ap₂, _∙_, fun-ext}
 use mathlib.Core.Bool.{Bool, true, false}
 use mathlib.Core.Logic.{⊎-elim, _⊎_, inl, inr}
-use Prim.Native.Nat.{ℕ, zero, suc, _+_, _*_, _/_, _%_, _^_, _≤_, _<_, zero-le, suc-le-suc}
+use Prim.Native.Nat.{ℕ, zero, suc, _+_, _-_, _*_, _/_, _%_, _^_, _≤_, _<_, zero-le, suc-le-suc}
 use native.Mathlib.Nat.{mod-one, mod-lt, zero-lt-suc, pow-suc}
 use native.Mathlib.Omega.{arith}
 use lib.Arith.{mod-mul}
-use lib.Pow.{shr-shr, pow-pos}
+use lib.Pow.{shr-shr, pow-pos, field, mod-mod-pow}
 use lib.Dec.{eqb}
 use Rattle.acorn_model.specs.Bits.{Bits, _if_else_, bit, number}
 
@@ -35,6 +35,14 @@ bit-shift x k j = ap (λ (y : ℕ). eqb (y % 2) 1) (shr-shr x k j)
 
 pub bit-suc : (x j : ℕ) → bit x (suc j) ≡ bit (x / 2) j
 bit-suc x j = ap (bit x) (omega arith) ∙ sym (bit-shift x 1 j)
+
+-- the low bits of a number are those of its remainder
+pub bit-mod : (x n j : ℕ) → j < n → bit (x % 2 ^ n) j ≡ bit x j
+unfolding bit
+bit-mod x n j h =
+    ap (λ (k : ℕ). eqb (x % 2 ^ k / 2 ^ j % 2) 1) (omega arith)
+    ∙ ap (λ (y : ℕ). eqb (y % 2) 1) (field x ((n - suc j) + 1) j)
+    ∙ ap (λ (y : ℕ). eqb y 1) (mod-mod-pow (x / 2 ^ j) (n - suc j) 1)
 
 -- a number with b as its lowest bit
 pub bit-lowest : (b : Bool) (n : ℕ) → bit ((1 if b else 0) + 2 * n) 0 ≡ b

@@ -13,23 +13,13 @@ use Rattle.acorn_model.proofs.Bytes.{bytes-length, bytes-are-bytes, app
 
 -- ## The stretches
 
-module _ (opening : Bool) (piece : List ℕ) (S : Bits) where
-  pub textOut-length : length (textOut opening piece S) ≡ length piece
-  unfolding textOut
-  textOut-length = bytes-length (length piece) _
+pub textOut-length : (opening : Bool) (piece : List ℕ) (S : Bits) → length (textOut opening piece S) ≡ length piece
+unfolding textOut
+textOut-length opening piece S = bytes-length (length piece) _
 
-  pub textOut-are-bytes : AreBytes (textOut opening piece S)
-  unfolding textOut
-  textOut-are-bytes = bytes-are-bytes (length piece) _
-
-module _ (S : Bits) where
-  pub tagOf-length : length (tagOf S) ≡ tagLength
-  unfolding tagOf
-  tagOf-length = bytes-length tagLength _
-
-  pub tagOf-are-bytes : AreBytes (tagOf S)
-  unfolding tagOf
-  tagOf-are-bytes = bytes-are-bytes tagLength _
+pub tagOf-length : (S : Bits) → length (tagOf S) ≡ tagLength
+unfolding tagOf
+tagOf-length S = bytes-length tagLength _
 
 -- ## The paper
 
@@ -46,10 +36,6 @@ module _ (key nonce «data» : List ℕ) where
   unfolding decrypted
   decrypted-length cipher = bytes-length (length cipher) _
 
-  pub decrypted-are-bytes : (cipher : List ℕ) → AreBytes (decrypted key nonce «data» cipher)
-  unfolding decrypted
-  decrypted-are-bytes cipher = bytes-are-bytes (length cipher) _
-
   pub tag-length : (text : List ℕ) → length (tag key nonce «data» text) ≡ tagLength
   unfolding tag
   tag-length text = bytes-length tagLength _
@@ -61,10 +47,6 @@ module _ (key nonce «data» : List ℕ) where
   pub newTag-length : (cipher : List ℕ) → length (newTag key nonce «data» cipher) ≡ tagLength
   unfolding newTag
   newTag-length cipher = bytes-length tagLength _
-
-  pub newTag-are-bytes : (cipher : List ℕ) → AreBytes (newTag key nonce «data» cipher)
-  unfolding newTag
-  newTag-are-bytes cipher = bytes-are-bytes tagLength _
 
   -- ## Sealed bytes
 

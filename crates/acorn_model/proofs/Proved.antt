@@ -26,7 +26,7 @@ module _ (key nonce «data» : List ℕ) where
   pub opening-exact : OpeningExact key nonce «data»
   opening-exact =
       record {
-        unpack-pack = decrypted-ciphertext key nonce «data»;
+        decrypts = decrypted-ciphertext key nonce «data»;
         with-tag = opens-with-tag key nonce «data»;
         exactly = opens-exactly key nonce «data»;
         whole = opened-exactly key nonce «data»;

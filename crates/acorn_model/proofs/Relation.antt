@@ -10,10 +10,10 @@ use Rattle.acorn_model.specs.Bits.{Bits, AreBytes, _⊕_, bitsIn, bytes}
 use Rattle.acorn_model.specs.Step.{lfsrUpdate, fbk128, keystreamBit, feedbackBit, step, StepInput, run}
 use Rattle.acorn_model.specs.Stretches.{tagLength, tagBits, zeros}
 use Rattle.acorn_model.specs.Paper.{mAt, caAt, cbAt, inputAt, stateAt, ksAt, textBitOut, tagBit, ciphertext, tag, decrypted, newTag}
-use Rattle.acorn_model.specs.Laws.{ByPaper}
+use Rattle.acorn_model.specs.Laws.{SameState, ByPaper}
 use Rattle.acorn_model.proofs.Bytes.{bytes-length, bytes-same, bits-of-bytes, bytes-of-bits, bytes-are-bytes}
 use Rattle.acorn_model.proofs.Runs.{run-none, run-next}
-use Rattle.acorn_model.proofs.States.{step-shifts, step-new, step-by-bits, Same, same-keystreamBit, same-step}
+use Rattle.acorn_model.proofs.States.{step-shifts, step-new, step-by-bits, same-keystreamBit, same-step}
 use Rattle.acorn_model.proofs.Scheduled.{scheduled}
 use Rattle.acorn_model.proofs.Agree.{text-of-run, tag-of-run, ciphertext-agrees, tag-agrees}
 use Rattle.acorn_model.proofs.Outputs.{decrypted-length}
@@ -34,7 +34,7 @@ module _ (key nonce «data» : List ℕ) where
     g i = record { ca = e .ca i; cb = e .cb i; m = λ ks. e .m i }
 
     -- the relation's next state is made by a step
-    next : (i : ℕ) → i ≤ 1792 + (A + P + 1279) → Same (e .S (i + 1)) (step (e .ca i) (e .cb i) (e .m i) (e .S i))
+    next : (i : ℕ) → i ≤ 1792 + (A + P + 1279) → SameState (e .S (i + 1)) (step (e .ca i) (e .cb i) (e .m i) (e .S i))
     unfolding feedbackBit keystreamBit
     next i h =
         step-by-bits (e .ca i) (e .cb i) (e .m i) (e .S i) (e .S (i + 1))
@@ -42,7 +42,7 @@ module _ (key nonce «data» : List ℕ) where
         (e .S-new i (omega arith) ∙ ap (λ (ks : Bool). fbk128 (e .ca i) (e .cb i) ks (lfsrUpdate (e .S i)) ⊕ e .m i) (e .ks-is i (omega arith)))
 
     -- so its states are those of a run, and its ks bits too
-    states : (i : ℕ) → i ≤ 1792 + (A + P + 1280) → Same (e .S i) (run g i zeros)
+    states : (i : ℕ) → i ≤ 1792 + (A + P + 1280) → SameState (e .S i) (run g i zeros)
     unfolding run
     states zero h q l = e .S-first q (omega arith)
     states (suc i) h q l =

@@ -1,15 +1,15 @@
 -- One step by its bits, and states with the same bits 0 to 292: steps, runs and what comes out are the same on them.
-use mathlib.Core.Path.{_≡_, refl, sym, ap, ap₂, _∙_, fun-ext}
+use mathlib.Core.Path.{_≡_, refl, sym, ap, _∙_, fun-ext}
 use mathlib.Core.Bool.{Bool, true, false}
-use mathlib.Core.List.{List}
 use mathlib.Core.Logic.{⊎-elim}
 use Prim.Native.Nat.{ℕ, zero, suc, _≤_, _<_}
 use native.Mathlib.Omega.{arith}
-use lib.Dec.{leb, eqb}
+use lib.Dec.{leb}
 use borrow.Author.Tests.{le-leb, leb-true}
 use Rattle.acorn_model.specs.Bits.{Bits, _⊕_, _if_else_}
 use Rattle.acorn_model.specs.Step.{_⊕=_and_, lfsrUpdate, ksg128, fbk128, keystreamBit, feedbackBit, step, StepInput, stepOn, run}
 use Rattle.acorn_model.specs.Stretches.{Stretch, inputs, through, keystream, textPiece, textOut, final, tagOf}
+use Rattle.acorn_model.specs.Laws.{SameState, StateBits}
 use Rattle.acorn_model.proofs.Numbers.{lt-or-ge}
 use Rattle.acorn_model.proofs.Choices.{if-unequal}
 
@@ -32,9 +32,6 @@ module _ (ca cb m : Bool) (S : Bits) where
 
 -- ## The same 293 bits
 
-abbrev pub Same : Bits → Bits → Type 0
-Same S R = (q : ℕ) → q ≤ 292 → S q ≡ R q
-
 -- the 293 bits of S, and nothing above them
 abbrev low : Bits → Bits
 low S q = S q if leb q 292 else false
@@ -43,7 +40,7 @@ low-update : (S : Bits) (q : ℕ) → q ≤ 292 → lfsrUpdate (low S) q ≡ lfs
 unfolding lfsrUpdate _⊕=_and_
 low-update S q l = rw (le-leb q 292 l)
 
-module _ (S R : Bits) (h : Same S R) where
+module _ (S R : Bits) (h : SameState S R) where
   low-same : low S ≡ low R
   low-same = fun-ext (λ q. chosen q (leb q 292) refl)
     where
@@ -51,7 +48,7 @@ module _ (S R : Bits) (h : Same S R) where
       chosen q true e = h q (leb-true q 292 e)
       chosen q false e = refl
 
-  pub same-lfsrUpdate : Same (lfsrUpdate S) (lfsrUpdate R)
+  pub same-lfsrUpdate : SameState (lfsrUpdate S) (lfsrUpdate R)
   same-lfsrUpdate q l = sym (low-update S q l) ∙ ap (λ (T : Bits). lfsrUpdate T q) low-same ∙ low-update R q l
 
   -- what is read at fixed places is read of the 293 bits
@@ -63,7 +60,7 @@ module _ (S R : Bits) (h : Same S R) where
   unfolding fbk128
   same-fbk128 ca cb ks = ap (fbk128 ca cb ks) low-same
 
-module _ (S R : Bits) (h : Same S R) where
+module _ (S R : Bits) (h : SameState S R) where
   pub same-keystreamBit : keystreamBit S ≡ keystreamBit R
   unfolding keystreamBit
   same-keystreamBit = same-ksg128 (lfsrUpdate S) (lfsrUpdate R) (same-lfsrUpdate S R h)
@@ -73,34 +70,31 @@ module _ (S R : Bits) (h : Same S R) where
   same-feedbackBit ca cb =
       ap (λ (ks : Bool). fbk128 ca cb ks (lfsrUpdate S)) same-keystreamBit ∙ same-fbk128 (lfsrUpdate S) (lfsrUpdate R) (same-lfsrUpdate S R h) ca cb (keystreamBit R)
 
-  pub same-step : (ca cb m : Bool) → Same (step ca cb m S) (step ca cb m R)
+  pub same-step : (ca cb m : Bool) → SameState (step ca cb m S) (step ca cb m R)
   same-step ca cb m =
       step-by-bits ca cb m R (step ca cb m S) (λ q l. step-shifts ca cb m S q l ∙ same-lfsrUpdate S R h (suc q) (omega arith))
       (step-new ca cb m S ∙ ap (λ (f : Bool). f ⊕ m) (same-feedbackBit ca cb))
 
-  pub same-stepOn : (input : StepInput) → Same (stepOn input S) (stepOn input R)
+  pub same-stepOn : (input : StepInput) → SameState (stepOn input S) (stepOn input R)
   same-stepOn input q l = ap (λ (ks : Bool). step (input .ca) (input .cb) (input .m ks) S q) same-keystreamBit ∙ same-step (input .ca) (input .cb) (input .m (keystreamBit R)) q l
 
 -- ## Runs on them
 
-pub same-run : (g : ℕ → StepInput) (n : ℕ) (S R : Bits) → Same S R → Same (run g n S) (run g n R)
+pub same-run : (g : ℕ → StepInput) (n : ℕ) (S R : Bits) → SameState S R → SameState (run g n S) (run g n R)
 unfolding run
 same-run g zero S R h = h
 same-run g (suc n) S R h = same-stepOn (run g n S) (run g n R) (same-run g n S R h) (g n)
 
-module _ (S R : Bits) (h : Same S R) where
-  pub same-through : (stretch : Stretch) → Same (through stretch S) (through stretch R)
-  unfolding through
-  same-through stretch = same-run (inputs stretch) (stretch .steps) S R h
-
-  pub same-keystream : (stretch : Stretch) (j : ℕ) → keystream stretch S j ≡ keystream stretch R j
+module _ (S R : Bits) (h : SameState S R) where
+  same-keystream : (stretch : Stretch) (j : ℕ) → keystream stretch S j ≡ keystream stretch R j
   unfolding keystream
   same-keystream stretch j = same-keystreamBit (run (inputs stretch) j S) (run (inputs stretch) j R) (same-run (inputs stretch) j S R h)
 
-  pub same-textOut : (opening : Bool) (piece : List ℕ) → textOut opening piece S ≡ textOut opening piece R
-  unfolding textOut
-  same-textOut opening piece = simp (same-keystream (textPiece opening piece))
-
-  pub same-tagOf : tagOf S ≡ tagOf R
-  unfolding tagOf
-  same-tagOf = simp (same-keystream final)
+  pub state-bits : StateBits S R
+  unfolding through textOut tagOf
+  state-bits =
+      record {
+        next = λ stretch. same-run (inputs stretch) (stretch .steps) S R h;
+        text = λ opening piece. simp (same-keystream (textPiece opening piece));
+        tag = simp (same-keystream final);
+      }

@@ -2,7 +2,6 @@
 use mathlib.Core.Path.{_≡_, refl}
 use mathlib.Core.Bool.{Bool, true, false, _&&_, Bool·beq, false≢true}
 use mathlib.Core.List.{List, [], _∷_}
-use Prim.Native.Nat.{ℕ}
 use Rattle.acorn_model.specs.Bits.{Bits}
 use Rattle.acorn_model.specs.Step.{_⊕=_and_, lfsrUpdate, maj, ch, ksg128, fbk128, keystreamBit, feedbackBit, step}
 use Rattle.acorn_model.specs.StepCases.{Control, set, either, Observation, ks, _is_, StepCase, stateWith, ForEach, Observed, StepHolds, AllSteps, furtherCases}

@@ -16,7 +16,7 @@ pub data Reply (A : Type 0) : Type 0 where
   refused : ℕ → Reply A
   done : A → Reply A
 
--- What a session's or a writer's call did: the bytes that it wrote, and the steps run since its session was fresh.
+-- What a call did: the bytes that it wrote, and the steps run since its session was fresh.
 pub record Work : Type 0 where
   pub bytes : ℕ
   pub steps : ℕ
@@ -77,7 +77,7 @@ unfoldable pub callsOf : {C : Type 0} → List (Entry C) → List C
 callsOf [] = []
 callsOf (e ∷ es) = e .call ∷ callsOf es
 
--- A machine whose one call is `step`, fed a list of calls: what it answers and writes, and what it is at the end.
+-- A machine whose one call is `step`, given a list of calls: what it answers and writes, and what it is at the end.
 module _ {M C : Type 0} (step : M → C → Outcome M Work) where
   unfoldable pub entries : M → List C → List (Entry C)
   entries m [] = []

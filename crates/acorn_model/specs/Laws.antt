@@ -7,10 +7,20 @@ use Prim.Native.Nat.{ℕ, _+_, _*_, _≤_}
 use lib.ListN.{length, take}
 use Rattle.acorn_model.specs.Bits.{Bits, AreBytes, bitsIn, bytes}
 use Rattle.acorn_model.specs.Paper.{Encrypts, ciphertext, tag, decrypted, newTag, Opens}
-use Rattle.acorn_model.specs.Stretches.{tagLength, textOut, tagOf, through, textEnd, afterData, beforeFinal, textPieces, textPiecesOut, joined, afterDataPieces}
+use Rattle.acorn_model.specs.Stretches.{Stretch, tagLength, textOut, tagOf, through, textEnd, afterData, beforeFinal, textPieces, textPiecesOut, joined, afterDataPieces}
 use Rattle.acorn_model.specs.Calls.{refused, done, writtenOver}
 use Rattle.acorn_model.specs.Machine.{keyLength, nonceLength, byteLimit}
 use Rattle.acorn_model.specs.Message.{sealed, tagMatches, opened, sealMessage, openMessage}
+
+-- the same bits 0 to 292
+abbrev pub SameState : Bits → Bits → Type 0
+SameState S R = (p : ℕ) → p ≤ 292 → S p ≡ R p
+
+-- What states with the same bits 0 to 292 give is the same, whatever stands above.
+pub record StateBits (S R : Bits) : Type 0 where
+  pub next : (stretch : Stretch) → SameState (through stretch S) (through stretch R)
+  pub text : (opening : Bool) (piece : List ℕ) → textOut opening piece S ≡ textOut opening piece R
+  pub tag : tagOf S ≡ tagOf R
 
 module _ (key nonce «data» : List ℕ) where
   -- by the paper n bytes of plaintext bits p are encrypted to c, with the tag T
@@ -30,7 +40,7 @@ module _ (key nonce «data» : List ℕ) where
 
   -- Opening undoes sealing, and opens exactly when the tag is the one.
   pub record OpeningExact : Type 0 where
-    pub unpack-pack : (text : List ℕ) → AreBytes text → decrypted key nonce «data» (ciphertext key nonce «data» text) ≡ text
+    pub decrypts : (text : List ℕ) → AreBytes text → decrypted key nonce «data» (ciphertext key nonce «data» text) ≡ text
     pub with-tag : (text t : List ℕ) → AreBytes text
         → Opens key nonce «data» (ciphertext key nonce «data» text) t text ↔ (t ≡ tag key nonce «data» text)
     pub exactly : (cipher t text : List ℕ) → AreBytes cipher → AreBytes text

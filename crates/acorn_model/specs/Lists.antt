@@ -1,5 +1,4 @@
 -- Document 01 on lists of calls: what a list amounts to, read off its calls, their answers and their outputs alone.
-use mathlib.Core.Bool.{Bool, true, false}
 use mathlib.Core.List.{List, [], _∷_, _++_}
 use mathlib.Core.Path.{_≡_}
 use Prim.Native.Nat.{ℕ}

@@ -10,7 +10,7 @@ use Rattle.acorn_model.specs.Paper.{ciphertext, tag, decrypted, newTag}
 use Rattle.acorn_model.specs.Calls.{Reply, refused, done, accepted, unlessRefused, writtenOver, sameBytes}
 use Rattle.acorn_model.specs.Machine.{keyAndNonceRight, byteLimit}
 
--- What a call on a whole message comes to: its answer, and its output after it.
+-- What a call that hands on no state comes to: its answer, and its output after it.
 pub record Result (A : Type 0) : Type 0 where
   pub answer : Reply A
   pub out : List ℕ

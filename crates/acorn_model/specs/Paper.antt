@@ -1,7 +1,7 @@
 -- ACORN-128 version 3 by the paper's own numbering of its steps (document 003, 1.3.2 to 1.3.7): as a relation, with a field for each line
 -- of 1.3.3 to 1.3.6, and as functions that compute what the relation says. The paper's step i has the number 1792 + i here, so its first, -1792, is 0.
 use mathlib.Core.Path.{_≡_}
-use mathlib.Core.Bool.{Bool, true, false, _&&_, cond}
+use mathlib.Core.Bool.{Bool, true, false, _&&_}
 use mathlib.Core.List.{List}
 use Prim.Native.Nat.{ℕ, _+_, _-_, _*_, _%_, _≤_, _<_}
 use lib.Dec.{eqb, ltb}

@@ -1,5 +1,5 @@
 -- Document 01, "One step": the four rules in their order. They are StateUpdate128 of the cipher's paper (document 003, 1.3.2).
-use mathlib.Core.Bool.{Bool, not, _&&_, cond}
+use mathlib.Core.Bool.{Bool, not, _&&_}
 use Prim.Native.Nat.{ℕ, zero, suc}
 use lib.Dec.{eqb}
 use Rattle.acorn_model.specs.Bits.{Bits, _⊕_, _if_else_}

@@ -1,5 +1,5 @@
 -- Document 01, "The stretches": the table, a definition a row, and what a run through a stretch gives.
-use mathlib.Core.Bool.{Bool, true, false, _&&_, cond}
+use mathlib.Core.Bool.{Bool, true, false, _&&_}
 use mathlib.Core.List.{List, [], _∷_, _++_}
 use Prim.Native.Nat.{ℕ, _+_, _-_, _*_, _%_}
 use lib.Dec.{eqb, ltb}
@@ -23,7 +23,7 @@ tagBits = 8 * tagLength
 
 -- ## The rows
 
--- the message bits of start: key, nonce, and then the key's bits round and round, the first of these inverted
+-- the message bits of start: key, nonce, and then the key's bits over and over, the first of these inverted
 unfoldable pub startBit : List ℕ → List ℕ → Bits
 startBit key nonce i =
     bitsIn key i if ltb i 128 else

@@ -1,4 +1,4 @@
-// The words that code and specification share: the kinds and phases of a session, and the answers of calls.
+// The types that code and specification share: the kinds and phases of a session, and the answers of calls.
 pub enum Kind {
     Sealing,
     Checking,
@@ -11,13 +11,13 @@ pub enum Phase {
     Closed,
 }
 
-// The answer of a session's or a writer's call: a refusal number, or the bytes that the call wrote and the steps run since fresh.
+// The answer of a call that runs steps: a refusal number, or the bytes that the call wrote and the steps run since fresh.
 pub enum Answer {
     Refused(u8),
     Done(usize, u64),
 }
 
-// The answer of whole sealing and opening, and of packing: a refusal number, or the number of bytes written.
+// The answer of a call that only writes: a refusal number, or the number of bytes written.
 pub enum Written {
     Refused(u8),
     Done(usize),

@@ -7,7 +7,7 @@ use Rattle.acorn_model.specs.Machine.{Machine, fresh, Call, begin, dataCall, se
 use Rattle.acorn_model.specs.Machine.{runThrough, enter, cleared, countData, countText, begun, dataTaken, textTaken, textEnded, closed, wrote, work, call}
 use Rattle.acorn_model.specs.Lists.{Log, logged, joinLogs, logOf}
 use Rattle.call_lists.specs.MachineLists.{machineAfter, logFrom}
-use Rattle.call_lists.proofs.Refusals.{by-number, passed, never-7}
+use Rattle.acorn_model.proofs.Refusals.{by-number, passed, never-7}
 use Rattle.call_lists.proofs.Lists.{entryOf, kept-by-list}
 use Rattle.call_lists.proofs.Logs.{followed-by-nothing, log-last, refused-adds, work-adds}
 use Rattle.call_lists.proofs.Reached.{Reached, fresh-reached}

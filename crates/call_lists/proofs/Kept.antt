@@ -20,7 +20,7 @@ use Rattle.acorn_model.specs.Machine.{runThrough, enter, cleared, countData, co
 use Rattle.acorn_model.specs.Lists.{Log, nothing, joinLogs}
 use Rattle.acorn_model.proofs.Pieces.{dataPiece-none, dataPiece-append, textPiece-none}
 use Rattle.call_lists.specs.MachineLists.{endedSteps}
-use Rattle.call_lists.proofs.Refusals.{Passed}
+use Rattle.acorn_model.proofs.Refusals.{Passed}
 use Rattle.call_lists.proofs.Logs.{added}
 use Rattle.call_lists.proofs.ByKind.{state-append, pieceOut, closeOut, rightTag, written-none, written-append, tag-of-state, written-all}
 use Rattle.call_lists.proofs.Reached.{baseSteps, InData, InText, Judged, Reached, in-phase}

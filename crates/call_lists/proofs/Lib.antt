@@ -1,4 +1,3 @@
-pub mod Refusals
 pub mod Lists
 pub mod Logs
 pub mod ByKind
@@ -10,6 +9,7 @@ pub mod Ran
 pub mod WriterReached
 pub mod WriterAccepts
 pub mod WriterKept
+pub mod WriterRuns
 pub mod WriterValid
 pub mod WriterLists
 pub mod WriterEvery

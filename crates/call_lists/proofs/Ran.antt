@@ -6,7 +6,7 @@ use Rattle.acorn_model.specs.Calls.{done, Work, Outcome, Entry, entries, handed
 use Rattle.acorn_model.specs.Machine.{Machine, fresh, Call, work, call}
 use Rattle.acorn_model.specs.Lists.{Log, nothing, logged, joinLogs, logOf}
 use Rattle.call_lists.specs.WriterLists.{AllAccepted}
-use Rattle.call_lists.proofs.Refusals.{Passed, works}
+use Rattle.acorn_model.proofs.Refusals.{Passed, works}
 use Rattle.call_lists.proofs.Lists.{entryOf, handed-append, entries-append}
 use Rattle.call_lists.proofs.Logs.{added, work-adds, log-last}
 use Rattle.call_lists.proofs.Reached.{Reached}

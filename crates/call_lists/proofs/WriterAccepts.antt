@@ -20,7 +20,8 @@ use Rattle.tape_model.specs.Tape.{ticketLimit, nonceOf}
 use Rattle.tape_model.specs.Writer.{PlainWriter, WriterCall, start, add, finish, isFresh, isOpen, keyRight, tapeFull, onAnswer, passedOn, started, work}
 use Rattle.tape_model.specs.Writer.{phaseAllows as writerAllows, outputShort as writerShort}
 use Rattle.tape_model.specs.WriterLists.{WriterLog}
-use Rattle.call_lists.proofs.Refusals.{Passed, works, WriterPassed}
+use Rattle.acorn_model.proofs.Refusals.{Passed, works}
+use Rattle.tape_model.proofs.Refusals.{WriterPassed}
 use Rattle.tape_model.proofs.Tickets.{head-length, ticket-length}
 use Rattle.tape_model.proofs.Tapes.{nonce-length}
 use Rattle.call_lists.proofs.WriterReached.{writerNothing, Begun, WriterReached, writer-in-phase, machine-seals, tickets-taken}

@@ -7,7 +7,7 @@ use native.Mathlib.Omega.{arith}
 use lib.ListN.{length}
 use borrow.Author.Tests.{le-ltb, lt-leb, eq-eqb}
 use Rattle.acorn_model.specs.Stretches.{tagLength}
-use Rattle.acorn_model.specs.Calls.{done, Work, Outcome, unlessRefused, entries, handedOn}
+use Rattle.acorn_model.specs.Calls.{done, Work, Outcome, entries, handedOn}
 use Rattle.acorn_model.specs.Machine.{keyLength, answered, wrote}
 use Rattle.acorn_model.specs.Machine.{work as machineWork}
 use Rattle.acorn_model.specs.Lists.{ifAccepted}
@@ -16,32 +16,19 @@ use Rattle.tape_model.specs.declared.Head.{Head}
 use Rattle.tape_model.specs.declared.WriterPhase.the-variants.{Open, Closed}
 use Rattle.tape_model.specs.Ticket.{ticketLength, headLength, headRule}
 use Rattle.tape_model.specs.Tape.{ticketLimit, tapeOf}
-use Rattle.tape_model.specs.Writer.{PlainWriter, freshWriter, WriterCall, start, add, finish, phaseAllows, keyRight, headRight, ticketRight, tapeFull, outputShort, refusal, work, writerCall}
-use Rattle.tape_model.specs.WriterLists.{Started, startOf, ticketsOf, WriterLog, writerLog}
+use Rattle.tape_model.specs.Writer.{PlainWriter, freshWriter, WriterCall, start, add, finish, phaseAllows, keyRight, headRight, ticketRight, tapeFull, outputShort, writerCall}
+use Rattle.tape_model.specs.WriterLists.{Started, startOf, ticketsOf, writerLog}
 use Rattle.tape_model.specs.Laws.{Valid}
 use Rattle.call_lists.specs.WriterLists.{writerLogFrom, AllAccepted, TapeOutputs, RoomFor, adds, tapeCalls, EveryTapeWritten}
-use Rattle.call_lists.proofs.Refusals.{WriterPassed}
-use Rattle.call_lists.proofs.WriterReached.{WriterReached, fresh-writer-reached}
-use Rattle.call_lists.proofs.WriterAccepts.{machine-passed, comesTo, accepted-work}
-use Rattle.call_lists.proofs.WriterKept.{writer-kept}
+use Rattle.tape_model.proofs.Refusals.{WriterPassed}
+use Rattle.call_lists.proofs.WriterAccepts.{comesTo}
+use Rattle.call_lists.proofs.WriterRuns.{HasRun, fresh-has-run, runs-on, comes}
 use Rattle.call_lists.proofs.WriterLists.{writer-lists}
 
 -- ## A call that passes
 
--- a plain writer that a list of calls led to
-abbrev HasRun : PlainWriter → Type 0
-HasRun w = (log : WriterLog) × WriterReached w log
-
-works : (w : PlainWriter) (c : WriterCall) → WriterPassed w c → writerCall w c ≡ work w c
-unfolding writerCall unlessRefused refusal
-works w c p = rw (p .phase, p .key, p .head, p .ticket, p .full, p .output)
-
-module _ (w : PlainWriter) (c : WriterCall) (h : HasRun w) (p : WriterPassed w c) where
-  comes : writerCall w c ≡ comesTo w c
-  comes = works w c p ∙ accepted-work w c (machine-passed w (h .0) c (h .1) p)
-
-  runs-on : HasRun (comesTo w c .next)
-  runs-on = subst (λ (o : Outcome PlainWriter Work). HasRun (o .next)) comes (_, writer-kept w c (h .0) (h .1))
+passes-on : (w : PlainWriter) (c : WriterCall) → HasRun w → WriterPassed w c → HasRun (comesTo w c .next)
+passes-on w c h p = subst (λ (o : Outcome PlainWriter Work). HasRun (o .next)) (comes w c h p) (runs-on w c h)
 
 -- ## The list
 
@@ -80,7 +67,7 @@ from-open w (t ∷ ts) outs out h o v l rooms room =
       full = lt-leb ticketLimit (w .tickets) (omega arith);
       output = le-ltb (length (outs 0)) ticketLength (rooms 0 (omega arith));
     } in
-    let rest = from-open (comesTo w c .next) ts (λ i. outs (suc i)) out (runs-on w c h p) refl (v .1) (omega arith) (λ i k. rooms (suc i) (omega arith)) room in
+    let rest = from-open (comesTo w c .next) ts (λ i. outs (suc i)) out (passes-on w c h p) refl (v .1) (omega arith) (λ i k. rooms (suc i) (omega arith)) room in
     first w c (adds ts (λ i. outs (suc i)) ++ (finish out ∷ [])) [] ts _ h p refl rest
 
 from-fresh : (key : List ℕ) (head : Head) (ts : List Ticket) (outs : TapeOutputs)
@@ -89,7 +76,7 @@ from-fresh : (key : List ℕ) (head : Head) (ts : List Ticket) (outs : TapeOutpu
 unfolding entries handedOn writerLog startOf ticketsOf freshWriter phaseAllows keyRight headRight ticketRight tapeFull outputShort
 from-fresh key head ts outs k r v l room =
     let c : WriterCall = start key head (outs .head) in
-    let h : HasRun freshWriter = (_, fresh-writer-reached) in
+    let h = fresh-has-run in
     let p : WriterPassed freshWriter c = record {
       phase = refl;
       key = eq-eqb (length key) keyLength k;
@@ -98,7 +85,7 @@ from-fresh key head ts outs k r v l room =
       full = refl;
       output = le-ltb (length (outs .head)) headLength (room .head);
     } in
-    let rest = from-open (comesTo freshWriter c .next) ts (outs .ticket) (outs .tag) (runs-on freshWriter c h p) refl v (omega arith) (room .ticket) (room .tag) in
+    let rest = from-open (comesTo freshWriter c .next) ts (outs .ticket) (outs .tag) (passes-on freshWriter c h p) refl v (omega arith) (room .ticket) (room .tag) in
     first freshWriter c (adds ts (outs .ticket) ++ (finish (outs .tag) ∷ [])) [] ts _ h p refl rest
 
 -- ## The claim

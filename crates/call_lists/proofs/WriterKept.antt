@@ -19,7 +19,8 @@ use Rattle.tape_model.specs.Tape.{ticketLimit, packTickets}
 use Rattle.tape_model.specs.Writer.{PlainWriter, freshWriter, WriterCall, start, add, finish, phaseAllows, tapeFull, outputOf, refusal, work, writerCall}
 use Rattle.tape_model.specs.WriterLists.{Started, startOf, ticketsOf, machineCallsOf, WriterLog, writerLog, headsOf}
 use Rattle.call_lists.specs.WriterLists.{writerAfter, writerLogFrom}
-use Rattle.call_lists.proofs.Refusals.{Passed, by-number, WriterPassed, writer-passed}
+use Rattle.acorn_model.proofs.Refusals.{Passed, by-number}
+use Rattle.tape_model.proofs.Refusals.{WriterPassed, writer-passed}
 use Rattle.call_lists.proofs.Lists.{entryOf, kept-by-list}
 use Rattle.call_lists.proofs.Logs.{added, take-over, work-adds}
 use Rattle.tape_model.proofs.Tickets.{head-length}

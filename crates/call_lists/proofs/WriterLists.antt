@@ -20,7 +20,8 @@ use Rattle.call_lists.specs.MachineLists.{logFrom}
 use Rattle.tape_model.specs.WriterLists.{Started, WriterLog, headsOf}
 use Rattle.call_lists.specs.WriterLists.{writerAfter, writerLogFrom, WriterLists}
 use Rattle.tape_model.proofs.Tapes.{tapes-come-back}
-use Rattle.call_lists.proofs.Refusals.{by-number, writer-passed}
+use Rattle.acorn_model.proofs.Refusals.{by-number}
+use Rattle.tape_model.proofs.Refusals.{writer-passed}
 use Rattle.call_lists.proofs.MachineLists.{machine-lists}
 use Rattle.call_lists.proofs.WriterReached.{Begun, WriterMeans, WriterReached, writer-in-phase}
 use Rattle.call_lists.proofs.WriterAccepts.{machine-passed, accepted-work}

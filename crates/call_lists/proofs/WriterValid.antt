@@ -1,6 +1,6 @@
 -- What a writer accepts is as the rules say: its keys, heads and tickets.
-use mathlib.Core.Path.{_≡_, refl, ap, _∙_}
-use mathlib.Core.Bool.{Bool, true}
+use mathlib.Core.Path.{_≡_, refl}
+use mathlib.Core.Bool.{true}
 use mathlib.Core.List.{List, [], _∷_, _++_}
 use Prim.Native.Nat.{ℕ}
 use native.Mathlib.Omega.{arith}
@@ -14,7 +14,8 @@ use Rattle.tape_model.specs.Ticket.{headRule}
 use Rattle.tape_model.specs.Writer.{PlainWriter, WriterCall, start, add, finish, outputOf, keyRight, headRight, ticketRight, refusal, work, writerCall}
 use Rattle.tape_model.specs.WriterLists.{Started, startOf, ticketsOf, writerLog}
 use Rattle.tape_model.specs.Laws.{Valid}
-use Rattle.call_lists.proofs.Refusals.{by-number, WriterPassed, writer-passed}
+use Rattle.acorn_model.proofs.Refusals.{by-number}
+use Rattle.tape_model.proofs.Refusals.{WriterPassed, writer-passed}
 
 -- a key of 16 bytes, and a head in its ranges
 abbrev pub StartsRight : List Started → Type 0

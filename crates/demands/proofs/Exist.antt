@@ -12,18 +12,18 @@ use Rattle.session.proofs.WordsBack.{session-clear, session-stands}
 use Rattle.tape.specs.declared.WriterReply.{WriterReply}
 use Rattle.tape.specs.Contracts.{writerOf, wrappedWriter, wrappedWriterOutcome, WriterCalled}
 use Rattle.tape.specs.Contracts as tape
-use Rattle.demands.specs.Played.{Played, none, call}
+use Rattle.demands.specs.CallsMade.{CallsMade, none, call}
 use Rattle.demands.specs.Examples.{SessionReplies, WriterReplies, SessionsExist, WritersExist}
 use Rattle.demands.proofs.Standing.{call-clear, answerOf, answers, writer-call-clear, writerFor, writer-stands}
 
 module _ {S C R : Type 0} (next : R → S) (reply : R → Reply Work) (Called : S → C → R → List ℕ → Type 0)
     (replies : (s : S) (c : C) → (r : R) × (out : List ℕ) × Called s c r out) where
-  played : (s : S) (cs : List C) → (es : List (Entry C)) × (e : S) × Played next reply Called s es e × (callsOf es ≡ cs)
+  calls-made : (s : S) (cs : List C) → (es : List (Entry C)) × (e : S) × CallsMade next reply Called s es e × (callsOf es ≡ cs)
   unfolding callsOf
-  played s [] = ([], s, none, refl)
-  played s (c ∷ cs) =
+  calls-made s [] = ([], s, none, refl)
+  calls-made s (c ∷ cs) =
       let k = replies s c in
-      let p = played (next (k .0)) cs in
+      let p = calls-made (next (k .0)) cs in
       (record { call = c; answer = reply (k .0); out = k .1 } ∷ p .0, p .1, call (k .0) (k .2) (p .2), ap (_∷_ c) (p .3))
 
 -- ## Sessions
@@ -39,8 +39,8 @@ session-replies s c =
 pub sessions-exist : SessionsExist
 unfolding fresh
 sessions-exist kind cs =
-    let p = played (λ (r : SessionReply). r .session) (λ (r : SessionReply). answerReply (r .answer)) Called session-replies (sessionFor (fresh kind)) cs in
-    (p .0, p .1, record { first = sessionFor (fresh kind); isFresh = session-stands (fresh kind) (λ q. refl); played = p .2 }, p .3)
+    let p = calls-made (λ (r : SessionReply). r .session) (λ (r : SessionReply). answerReply (r .answer)) Called session-replies (sessionFor (fresh kind)) cs in
+    (p .0, p .1, record { first = sessionFor (fresh kind); isFresh = session-stands (fresh kind) (λ q. refl); calls = p .2 }, p .3)
 
 -- ## Writers
 
@@ -55,5 +55,5 @@ writer-replies w c =
 pub writers-exist : WritersExist
 unfolding freshWriter fresh
 writers-exist cs =
-    let p = played (λ (r : WriterReply). r .writer) (λ (r : WriterReply). answerReply (r .answer)) WriterCalled writer-replies (writerFor freshWriter) cs in
-    (p .0, p .1, record { first = writerFor freshWriter; isFresh = writer-stands freshWriter (λ q. refl); played = p .2 }, p .3)
+    let p = calls-made (λ (r : WriterReply). r .writer) (λ (r : WriterReply). answerReply (r .answer)) WriterCalled writer-replies (writerFor freshWriter) cs in
+    (p .0, p .1, record { first = writerFor freshWriter; isFresh = writer-stands freshWriter (λ q. refl); calls = p .2 }, p .3)

@@ -27,7 +27,9 @@ use Rattle.tape_model.specs.Writer.{PlainWriter, WriterCall, start, add, finish
 use Rattle.tape_model.specs.Writer as plain
 use Rattle.tape_model.specs.Reader as model
 use Rattle.tape_model.specs.Reader.{Reading, atEnd, ReadOutcome, stays, handedOut, readNext}
-use Rattle.call_lists.proofs.Refusals.{by-number, never-7, writer-passed}
+use Rattle.acorn_model.proofs.Refusals.{by-number, never-7}
+use Rattle.tape_model.proofs.Refusals.{writer-passed}
+use Rattle.call_lists.proofs.WriterRuns.{HasRun}
 use Rattle.call_lists.proofs.WriterAccepts.{MachinePassed, machine-passed, comesTo, accepted-work}
 use Rattle.session.specs.declared.Session.{Session}
 use Rattle.session.specs.declared.Reply.{Reply as SessionReply}
@@ -38,13 +40,13 @@ use Rattle.tape.specs.declared.WriterReply.{WriterReply}
 use Rattle.tape.specs.Contracts.{writerOf, wrappedWriter, wrappedWriterOutcome, WriterCalled}
 use Rattle.tape.specs.Contracts as tape
 use Rattle.reader.specs.declared.Reader.{Reader}
-use Rattle.reader.specs.declared.Handed.{Handed}
+use Rattle.reader.specs.declared.ReaderReply.{ReaderReply}
 use Rattle.reader.specs.Contracts.{readerOf, NextCalled}
 use Rattle.reader.specs.Contracts as reader
 use Rattle.ticket.proofs.Summing.{refused-by-8}
 use Rattle.demands.specs.Refusals.{AnsweredBy, tagDiffers, sessionNumber, Counts64, SessionRefusals, WriterRefusals, OpensTape, OpeningRefusals, readerNumber, ReaderRefusals, RefusalDemand}
 use Rattle.demands.proofs.Numbers.{never, same-number, accepted-by, refused-by, by-cases, chain, refused-as}
-use Rattle.demands.proofs.Writers.{HasRun, has-run, writer-demand}
+use Rattle.demands.proofs.Writers.{has-run, writer-demand}
 
 -- counting in 64 bits does not touch a refusal
 still-refused : (a : Reply Work) (n : ℕ) → wrappedReply a ≡ refused n → a ≡ refused n
@@ -247,7 +249,7 @@ module _ (r : model.Reader) where
   unfolding readNext
   reads = by-tests (ticketsLength (length (r .string))) _ refl
 
-reader-refusals : (r : Reader) (h : Handed) (called : NextCalled r h) → ReaderRefusals r h called
+reader-refusals : (r : Reader) (h : ReaderReply) (called : NextCalled r h) → ReaderRefusals r h called
 unfolding reader.outcomeOf
 reader-refusals r h called =
     let x = subst (Reads (readerNumber (readerOf r)) (readerOf r)) (sym (called .outcome)) (reads (readerOf r)) in

@@ -1,4 +1,5 @@
--- The sessions' lists of specs/Examples.antt: what comes of them is computed as far as phases, counts, sizes and answers go, and no step of the cipher is run.
+-- The sessions' lists of specs/Examples.antt: what comes of them is computed as far as phases, counts, sizes and answers go, and no step of the
+-- cipher is run.
 use mathlib.Core.Path.{_≡_, refl, sym, ap, _∙_, subst₂}
 use mathlib.Core.Bool.{Bool, true, false, true≢false}
 use mathlib.Core.List.{List, [], _∷_, _++_, append-assoc}
@@ -21,7 +22,7 @@ use Rattle.acorn_model.specs.Lists.{Ended, beginOf, dataOf, textOf, tagsOf, ver
 use Rattle.acorn_model.proofs.SameBytes.{same-bytes-refl, same-bytes-true}
 use Rattle.acorn_model.proofs.Outputs.{newTag-length}
 use Rattle.acorn_model.proofs.Proved.{stretches-agree}
-use Rattle.call_lists.proofs.Refusals.{Passed, works}
+use Rattle.acorn_model.proofs.Refusals.{Passed, works}
 use Rattle.demands.specs.Examples.{SomeSession, Finish, Answers, EndAlike, sealingCalls, checkingCalls, refusedCalls, cutCalls, SessionExamples}
 use Rattle.demands.proofs.Sessions.{session-demand}
 use Rattle.demands.proofs.Exist.{sessions-exist}

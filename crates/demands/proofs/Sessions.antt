@@ -43,7 +43,7 @@ module _ (kind : Kind) (es : List (Entry Call)) (e : Session) (l : SessionList k
   as-machine =
       subst (λ (m : Machine). (es ≡ entries call m (callsOf es)) × (machineOf e ≡ handedOn call m (callsOf es))) (l .isFresh)
       (as-model (λ (r : SessionReply). r .session) (λ (r : SessionReply). answerReply (r .answer)) Called call machineOf HasRun says runs-on (l .first) e es
-      (subst HasRun (sym (l .isFresh)) (record { log = _; reached = fresh-reached kind })) (l .played))
+      (subst HasRun (sym (l .isFresh)) (record { log = _; reached = fresh-reached kind })) (l .calls))
 
   -- what the list amounts to, and its last session, are the machine's
   same-log : logOf es ≡ logFrom kind (callsOf es)

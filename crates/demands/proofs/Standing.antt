@@ -13,7 +13,7 @@ use Rattle.acorn_model.specs.Machine.{runThrough, enter, cleared, countData, co
 use Rattle.tape_model.specs.Writer.{PlainWriter, WriterCall, start, add, finish, onAnswer, passedOn, started, writerCall}
 use Rattle.tape_model.specs.Writer as plain
 use Rattle.acorn.proofs.ClosedForm.{run-above}
-use Rattle.call_lists.proofs.Refusals.{by-number}
+use Rattle.acorn_model.proofs.Refusals.{by-number}
 use Rattle.session.specs.Words.{sessionFor}
 use Rattle.session.proofs.WordsBack.{Clear, session-stands}
 use Rattle.tape.specs.declared.Writer.{Writer}

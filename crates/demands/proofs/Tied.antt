@@ -1,5 +1,5 @@
 -- What a caller learns of each function, as the toolchain reads the contract in the source, is what the demands speak of, and a caller is asked
--- nothing: the session's and the writer's methods give `Called` and `WriterCalled` at their calls, so that `Played` is made of the contracts and of
+-- nothing: the session's and the writer's methods give `Called` and `WriterCalled` at their calls, so that `CallsMade` is made of the contracts and of
 -- nothing else; whole messages and tapes are sealed and opened, and tickets and heads packed and unpacked, as the definitions say. For the reader
 -- `reader/proofs/Tied` shows it.
 use mathlib.Core.Path.{_≡_}

@@ -10,33 +10,16 @@ use Rattle.acorn_model.specs.Machine.{keyLength, answered, wrote}
 use Rattle.acorn_model.specs.Machine.{work as machineWork}
 use Rattle.tape_model.specs.declared.WriterPhase.the-variants.{Closed}
 use Rattle.tape_model.specs.Ticket.{ticketLength, ordered, valuesRule, ticketRule, headLength, headRule}
-use Rattle.tape_model.specs.Writer.{PlainWriter, freshWriter, WriterCall, start, phaseAllows, keyRight, headRight, ticketRight, tapeFull, outputShort, refusal, work, writerCall}
-use Rattle.tape_model.specs.WriterLists.{WriterLog}
-use Rattle.call_lists.proofs.Refusals.{WriterPassed}
-use Rattle.call_lists.proofs.WriterReached.{WriterReached, fresh-writer-reached}
+use Rattle.tape_model.specs.Writer.{PlainWriter, freshWriter, WriterCall, start, phaseAllows, keyRight, headRight, ticketRight, tapeFull, outputShort, refusal, writerCall}
+use Rattle.tape_model.proofs.Refusals.{WriterPassed}
+use Rattle.call_lists.proofs.WriterReached.{fresh-writer-reached}
 use Rattle.call_lists.proofs.WriterAccepts.{machine-passed, comesTo, accepted-work}
-use Rattle.call_lists.proofs.WriterKept.{writer-kept}
+use Rattle.call_lists.proofs.WriterRuns.{HasRun, fresh-has-run, runs-on, comes}
 use Rattle.call_lists.specs.WriterLists.{AllAccepted}
 use Rattle.demands.specs.Examples.{Answers, SomeWriter, someHead, writerCalls, refusedWriterCalls, WriterExamples}
 use Rattle.demands.proofs.Writers.{writer-demand}
 use Rattle.demands.proofs.Exist.{writers-exist}
 use Rattle.demands.proofs.AllPass.{AllPass, all-same}
-
--- ## A call that passes
-
-works : (w : PlainWriter) (c : WriterCall) → WriterPassed w c → writerCall w c ≡ work w c
-unfolding writerCall unlessRefused refusal
-works w c p = rw (p .phase, p .key, p .head, p .ticket, p .full, p .output)
-
--- a plain writer that a list of calls led to
-abbrev HasRun : PlainWriter → Type 0
-HasRun w = (log : WriterLog) × WriterReached w log
-
-comes : (w : PlainWriter) (c : WriterCall) → HasRun w → WriterPassed w c → writerCall w c ≡ comesTo w c
-comes w c h p = works w c p ∙ accepted-work w c (machine-passed w (h .0) c (h .1) p)
-
-runs-on : (w : PlainWriter) (c : WriterCall) → HasRun w → HasRun (writerCall w c .next)
-runs-on w c h = (_, writer-kept w c (h .0) (h .1))
 
 -- ## The list
 
@@ -54,7 +37,7 @@ module _ (cs : List WriterCall) (P : List (Entry WriterCall) → PlainWriter →
 
   on-passing : AllPass writerCall comesTo HasRun WriterPassed comes runs-on freshWriter cs → P (entries comesTo freshWriter cs) (handedOn comesTo freshWriter cs) → SomeWriter cs P
   on-passing p h =
-      let e = all-same writerCall comesTo HasRun WriterPassed comes runs-on freshWriter cs (_, fresh-writer-reached) p in
+      let e = all-same writerCall comesTo HasRun WriterPassed comes runs-on freshWriter cs fresh-has-run p in
       on-writer (subst₂ P (sym (e .0)) (sym (e .1)) h)
 
 tape : (key out ticketOut tagOut : List ℕ) → length key ≡ keyLength → headLength ≤ length out → ticketLength ≤ length ticketOut → tagLength ≤ length tagOut

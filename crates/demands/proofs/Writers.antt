@@ -15,10 +15,12 @@ use Rattle.tape_model.specs.Tape.{ticketLimit, tapeOf}
 use Rattle.tape_model.specs.WriterLists.{Started, WriterLog, writerLog, headsOf}
 use Rattle.tape_model.specs.Laws.{TapeLaws}
 use Rattle.call_lists.specs.WriterLists.{writerLogFrom}
-use Rattle.call_lists.proofs.Refusals.{by-number, Passed, works, writer-passed}
-use Rattle.call_lists.proofs.WriterReached.{WriterReached, fresh-writer-reached, writer-small}
+use Rattle.acorn_model.proofs.Refusals.{by-number, Passed, works}
+use Rattle.tape_model.proofs.Refusals.{writer-passed}
+use Rattle.call_lists.proofs.WriterReached.{writer-small}
 use Rattle.call_lists.proofs.WriterAccepts.{MachinePassed, machine-passed, passedTo, comesTo, accepted-work, startedMachine}
-use Rattle.call_lists.proofs.WriterKept.{writer-kept, writer-reached}
+use Rattle.call_lists.proofs.WriterKept.{writer-reached}
+use Rattle.call_lists.proofs.WriterRuns.{HasRun, fresh-has-run, runs-on}
 use Rattle.call_lists.proofs.WriterLists.{writer-lists}
 use Rattle.session.specs.Contracts.{wrapped, wrappedReply, wrappedOutcome}
 use Rattle.session.proofs.Wrapping.{within, call-within}
@@ -28,7 +30,7 @@ use Rattle.tape.specs.Contracts.{writerOf, outcomeOf, wrappedWriter, wrappedWri
 use Rattle.demands.specs.Writers.{WriterList, WriterDemand}
 use Rattle.demands.proofs.AsModel.{as-model}
 
--- ## Counts that do not go round
+-- ## Counts that do not wrap around
 
 abbrev Small : PlainWriter → Type 0
 Small w = w .machine .counts .steps < 2 ^ 64
@@ -56,14 +58,6 @@ refused-within n w out h = λ i. record { next = record { machine = within (w .m
 
 -- ## One call
 
--- a plain writer that a list of calls led to
-pub record HasRun (w : PlainWriter) : Type 0 where
-  pub log : WriterLog
-  pub reached : WriterReached w log
-
-runs-on : (w : PlainWriter) (c : WriterCall) → HasRun w → HasRun (writerCall w c .next)
-runs-on w c h = record { log = _; reached = writer-kept w c (h .log) (h .reached) }
-
 small : (w : PlainWriter) → HasRun w → Small w
 small w h = writer-small w (h .log) (h .reached)
 
@@ -89,7 +83,7 @@ module _ (es : List (Entry WriterCall)) (e : Writer) (l : WriterList es e) where
   as-plain =
       subst (λ (w : PlainWriter). (es ≡ entries writerCall w (callsOf es)) × (writerOf e ≡ handedOn writerCall w (callsOf es))) (l .isFresh)
       (as-model (λ (r : WriterReply). r .writer) (λ (r : WriterReply). answerReply (r .answer)) WriterCalled writerCall writerOf HasRun says runs-on (l .first) e es
-      (subst HasRun (sym (l .isFresh)) (record { log = _; reached = fresh-writer-reached })) (l .played))
+      (subst HasRun (sym (l .isFresh)) fresh-has-run) (l .calls))
 
   -- the writer that they led to is such a one
   pub has-run : HasRun (writerOf e)

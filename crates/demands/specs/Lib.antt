@@ -1,4 +1,4 @@
-pub mod Played
+pub mod CallsMade
 pub mod Sessions
 pub mod Writers
 pub mod Refusals

@@ -36,7 +36,7 @@ use Rattle.tape.specs.declared.Writer.{Writer}
 use Rattle.tape.specs.declared.WriterReply.{WriterReply}
 use Rattle.tape.specs.Contracts.{writerOf, WriterCalled}
 use Rattle.reader.specs.declared.Reader.{Reader}
-use Rattle.reader.specs.declared.Handed.{Handed}
+use Rattle.reader.specs.declared.ReaderReply.{ReaderReply}
 use Rattle.reader.specs.Contracts.{readerOf, NextCalled}
 use Rattle.demands.specs.Messages.{Seals, OpensTo}
 use Rattle.demands.specs.Writers.{WriterList}
@@ -136,7 +136,7 @@ readerNumber r =
     8 if isRefused (unpackTicket (take ticketLength (drop (ticketLength * r .position) (r .string)))) else
     accepted
 
-module _ (r : Reader) (h : Handed) (called : NextCalled r h) where
+module _ (r : Reader) (h : ReaderReply) (called : NextCalled r h) where
   pub record ReaderRefusals : Type 0 where
     pub number : AnsweredBy (readerNumber (readerOf r)) (nextReply (h .answer))
     pub unchanged : (n : ℕ) → nextReply (h .answer) ≡ refused n → readerOf (h .reader) ≡ readerOf r
@@ -162,7 +162,7 @@ pub record RefusalDemand : Type 0 where
   -- two openings that both end on a differing tag, with equal outputs before, give the same answer and leave equal outputs
   pub sevens-alike : (key key′ tape tape′ out after after′ : List ℕ) (r r′ : OpenedTape) → OpensTape key tape out r after → OpensTape key′ tape′ out r′ after′
       → openedReply r ≡ refused 7 → openedReply r′ ≡ refused 7 → after ≡ after′
-  pub readers : (r : Reader) (h : Handed) (called : NextCalled r h) → ReaderRefusals r h called
+  pub readers : (r : Reader) (h : ReaderReply) (called : NextCalled r h) → ReaderRefusals r h called
   -- tickets and heads by themselves
   pub packing : (t : Ticket) (out after : List ℕ) (r : Written) → PacksTicket t out r after
       → RefusedBy (4 if not (ticketRule t) else 6 if ltb (length out) ticketLength else accepted) (writtenReply r) out after

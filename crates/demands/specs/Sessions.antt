@@ -17,13 +17,13 @@ use Rattle.call_lists.specs.MachineLists.{endedSteps}
 use Rattle.session.specs.declared.Session.{Session}
 use Rattle.session.specs.declared.Reply.{Reply as SessionReply}
 use Rattle.session.specs.Contracts.{machineOf, Called}
-use Rattle.demands.specs.Played.{Played}
+use Rattle.demands.specs.CallsMade.{CallsMade}
 
 -- a list of calls from a fresh session of this kind, which led to the session e
 pub record SessionList (kind : Kind) (es : List (Entry Call)) (e : Session) : Type 0 where
   pub first : Session
   pub isFresh : machineOf first ≡ fresh kind
-  pub played : Played {R = SessionReply} (λ r. r .session) (λ r. answerReply (r .answer)) Called first es e
+  pub calls : CallsMade {R = SessionReply} (λ r. r .session) (λ r. answerReply (r .answer)) Called first es e
 
 -- by the paper, under the key and nonce of the begin a and with the data taken, the bits p, as many as the text taken has, are encrypted to c, with
 -- the tag T

@@ -15,13 +15,13 @@ use Rattle.tape_model.specs.Laws.{TapeLaws}
 use Rattle.tape.specs.declared.Writer.{Writer}
 use Rattle.tape.specs.declared.WriterReply.{WriterReply}
 use Rattle.tape.specs.Contracts.{writerOf, WriterCalled}
-use Rattle.demands.specs.Played.{Played}
+use Rattle.demands.specs.CallsMade.{CallsMade}
 
 -- a list of calls from a fresh writer, which led to the writer e
 pub record WriterList (es : List (Entry WriterCall)) (e : Writer) : Type 0 where
   pub first : Writer
   pub isFresh : writerOf first ≡ freshWriter
-  pub played : Played {R = WriterReply} (λ r. r .writer) (λ r. answerReply (r .answer)) WriterCalled first es e
+  pub calls : CallsMade {R = WriterReply} (λ r. r .writer) (λ r. answerReply (r .answer)) WriterCalled first es e
 
 pub record WriterDemand : Type 0 where
   -- the writer answers and counts as the plain writer does: over the whole list the answers and outputs are the plain writer's, and at its end

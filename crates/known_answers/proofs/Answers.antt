@@ -1,6 +1,5 @@
 -- The paper's definitions give the published answers.
-use mathlib.Core.Path.{_≡_, refl, _∙_}
-use mathlib.Core.List.{List, [], _∷_}
+use mathlib.Core.List.{[], _∷_}
 use Rattle.acorn_model.specs.Bits.{bit, bitsIn, number, bytes}
 use Rattle.acorn_model.specs.Step.{_⊕=_and_, lfsrUpdate, maj, ch, ksg128, fbk128, keystreamBit, feedbackBit}
 use Rattle.acorn_model.specs.Stretches.{startBit}

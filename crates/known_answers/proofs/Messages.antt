@@ -1,33 +1,33 @@
 -- A message's ciphertext and tag by numbers that compute.
-use mathlib.Core.Path.{_≡_, refl, sym, ap, _∙_}
-use mathlib.Core.Bool.{Bool, true, false}
+use mathlib.Core.Path.{_≡_, sym, ap, _∙_}
+use mathlib.Core.Bool.{Bool, false}
 use mathlib.Core.List.{List}
 use Prim.Native.Nat.{ℕ, _+_, _-_, _*_, _<_}
 use native.Mathlib.Omega.{arith}
 use lib.ListN.{length}
 use Rattle.acorn_model.specs.Bits.{Bits, _⊕_, bit, bitsIn, number, bytes}
-use Rattle.acorn_model.specs.Step.{run, keystreamBit}
+use Rattle.acorn_model.specs.Step.{run}
 use Rattle.acorn_model.specs.Stretches.{Stretch, tagLength, tagBits, zeros, start, dataPiece, dataEnd, textPiece, textEnd, final, inputs, through, keystream, textOut, tagOf, afterData, beforeFinal}
 use Rattle.acorn_model.specs.Paper.{ciphertext, tag}
-use Rattle.acorn_model.proofs.Runs.{run-add}
+use Rattle.acorn_model.specs.Laws.{SameState}
 use Rattle.acorn_model.proofs.Numbers.{number-bit}
 use Rattle.acorn_model.proofs.Bytes.{bytes-same}
-use Rattle.acorn_model.proofs.States.{Same, same-keystreamBit}
+use Rattle.acorn_model.proofs.States.{same-keystreamBit}
 use Rattle.acorn_model.proofs.Agree.{ciphertext-agrees, tag-agrees}
 use Rattle.known_answers.proofs.StepNumbers.{runN, runN-is, keystreamN, keystreamN-bit}
 
-zeros-are : Same zeros (bit 0)
+zeros-are : SameState zeros (bit 0)
 unfolding number
 zeros-are q l = sym (number-bit 293 zeros q (omega arith))
 
 unfoldable pub throughN : Stretch → ℕ → ℕ
 throughN stretch x = runN (inputs stretch) (stretch .steps) x
 
-through-is : (stretch : Stretch) (x : ℕ) (S : Bits) → Same S (bit x) → Same (through stretch S) (bit (throughN stretch x))
+through-is : (stretch : Stretch) (x : ℕ) (S : Bits) → SameState S (bit x) → SameState (through stretch S) (bit (throughN stretch x))
 unfolding through throughN
 through-is stretch x S h = runN-is (inputs stretch) (stretch .steps) x S h
 
-keystream-is : (stretch : Stretch) (n j x : ℕ) (S : Bits) → Same S (bit x) → j < n → keystream stretch S j ≡ bit (keystreamN (inputs stretch) n x) j
+keystream-is : (stretch : Stretch) (n j x : ℕ) (S : Bits) → SameState S (bit x) → j < n → keystream stretch S j ≡ bit (keystreamN (inputs stretch) n x) j
 unfolding keystream
 keystream-is stretch n j x S h l =
     same-keystreamBit (run (inputs stretch) j S) (bit (runN (inputs stretch) j x)) (runN-is (inputs stretch) j x S h) ∙ sym (keystreamN-bit (inputs stretch) n j x l)
@@ -43,13 +43,13 @@ module _ (key nonce «data» text : List ℕ) where
   unfoldable pub finalKeystreamN : ℕ
   finalKeystreamN = keystreamN (inputs final) 768 (throughN textEnd (throughN (textPiece false text) afterDataN))
 
-  after-data : Same (afterData key nonce «data») (bit afterDataN)
+  after-data : SameState (afterData key nonce «data») (bit afterDataN)
   unfolding afterDataN
   after-data =
       through-is dataEnd (throughN (dataPiece «data») (throughN (start key nonce) 0)) (through (dataPiece «data») (through (start key nonce) zeros))
       (through-is (dataPiece «data») (throughN (start key nonce) 0) (through (start key nonce) zeros) (through-is (start key nonce) 0 zeros zeros-are))
 
-  before-final : Same (beforeFinal false text (afterData key nonce «data»)) (bit (throughN textEnd (throughN (textPiece false text) afterDataN)))
+  before-final : SameState (beforeFinal false text (afterData key nonce «data»)) (bit (throughN textEnd (throughN (textPiece false text) afterDataN)))
   before-final =
       through-is textEnd (throughN (textPiece false text) afterDataN) (through (textPiece false text) (afterData key nonce «data»))
       (through-is (textPiece false text) afterDataN (afterData key nonce «data») after-data)

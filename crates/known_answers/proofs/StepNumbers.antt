@@ -5,13 +5,13 @@ use mathlib.Core.Logic.{⊎-elim}
 use Prim.Native.Nat.{ℕ, zero, suc, _+_, _-_, _*_, _/_, _%_, _^_, _≤_, _<_}
 use native.Mathlib.Nat.{mod-lt}
 use native.Mathlib.Omega.{arith}
-use lib.Dec.{eqb}
-use lib.Pow.{pow-pos, field, mod-mod-pow, high, low}
+use lib.Pow.{pow-pos, high, low}
 use borrow.Author.Tests.{ne-eqb}
 use Rattle.acorn_model.specs.Bits.{Bits, _⊕_, _if_else_, bit}
 use Rattle.acorn_model.specs.Step.{_⊕=_and_, lfsrUpdate, keystreamBit, feedbackBit, step, StepInput, stepOn, run}
-use Rattle.acorn_model.proofs.Numbers.{lt-or-ge, bit-shift, bit-suc, bit-lowest, half}
-use Rattle.acorn_model.proofs.States.{Same, same-stepOn}
+use Rattle.acorn_model.specs.Laws.{SameState}
+use Rattle.acorn_model.proofs.Numbers.{lt-or-ge, bit-mod, bit-shift, bit-suc, bit-lowest, half}
+use Rattle.acorn_model.proofs.States.{same-stepOn}
 
 -- ## Numbers joined
 
@@ -21,13 +21,6 @@ joinAt L a u = u * 2 ^ L + a % 2 ^ L
 
 abbrev pub one : Bool → ℕ
 one b = 1 if b else 0
-
-bit-mod : (x L j : ℕ) → j < L → bit (x % 2 ^ L) j ≡ bit x j
-unfolding bit
-bit-mod x L j h =
-    ap (λ (n : ℕ). eqb (x % 2 ^ n / 2 ^ j % 2) 1) (omega arith)
-    ∙ ap (λ (y : ℕ). eqb (y % 2) 1) (field x ((L - suc j) + 1) j)
-    ∙ ap (λ (y : ℕ). eqb y 1) (mod-mod-pow (x / 2 ^ j) (L - suc j) 1)
 
 -- from place lo on, L bits of S are those of a, and the n behind them those of u
 joined-bits : (lo L a u n : ℕ) (S : Bits) → ((j : ℕ) → j < L → bit a j ≡ S (lo + j)) → ((j : ℕ) → j < n → bit u j ≡ S (lo + L + j))
@@ -90,7 +83,7 @@ module _ (input : StepInput) (x : ℕ) where
       let f : lo ≡ lo + j = omega arith in
       ap (bit (one b)) d ∙ bit-one b ∙ e ∙ ap after f
 
-  pub stepN-is : Same after (bit (stepN input x))
+  pub stepN-is : SameState after (bit (stepN input x))
   unfolding stepN step
   stepN-is q l =
       let e : 0 + q ≡ q = omega arith in
@@ -116,7 +109,7 @@ unfoldable pub runN : (ℕ → StepInput) → ℕ → ℕ → ℕ
 runN g zero x = x
 runN g (suc n) x = stepN (g n) (runN g n x)
 
-pub runN-is : (g : ℕ → StepInput) (n x : ℕ) (S : Bits) → Same S (bit x) → Same (run g n S) (bit (runN g n x))
+pub runN-is : (g : ℕ → StepInput) (n x : ℕ) (S : Bits) → SameState S (bit x) → SameState (run g n S) (bit (runN g n x))
 unfolding run runN
 runN-is g zero x S h q l = h q l
 runN-is g (suc n) x S h q l =

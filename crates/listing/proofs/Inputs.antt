@@ -2,11 +2,11 @@
 use mathlib.Core.Path.{_≡_, refl, sym, ap, ap₂, _∙_}
 use mathlib.Core.Bool.{Bool, true, false, not, _&&_}
 use mathlib.Core.Logic.{⊎-elim}
-use mathlib.Core.List.{List, [], _++_}
-use Prim.Native.Nat.{ℕ, zero, suc, _+_, _-_, _*_, _/_, _%_, _≤_, _<_}
+use mathlib.Core.List.{List, _++_}
+use Prim.Native.Nat.{ℕ, _+_, _-_, _*_, _/_, _%_, _≤_, _<_}
 use native.Mathlib.Omega.{arith}
 use lib.Dec.{eqb, leb}
-use lib.ListN.{length, take, drop, replicate, length-take, length-drop, drop-of-length-le}
+use lib.ListN.{length, take, drop, length-take, length-drop, drop-of-length-le}
 use lib.Seq.{take-all, take-length, drop-length}
 use borrow.Author.Tests.{lt-leb, le-ltb, ne-eqb}
 use Rattle.acorn_model.specs.Bits.{_if_else_}
@@ -16,12 +16,9 @@ use Rattle.acorn_model.specs.Machine.{keyLength}
 use Rattle.acorn_model.specs.Message.{Result}
 use Rattle.acorn_model.proofs.Numbers.{lt-or-ge}
 use Rattle.acorn_model.proofs.Messages.{result-written}
-use Rattle.tape_model.specs.declared.Ticket.{Ticket}
-use Rattle.tape_model.specs.declared.Head.{Head}
-use Rattle.tape_model.specs.Ticket.{ticketLength, headRule}
+use Rattle.tape_model.specs.Ticket.{ticketLength}
 use Rattle.tape_model.specs.Tape.{ticketLimit, ticketsLength, emptyTapeLength, tapeLength, tapeOf, openRefusal}
-use Rattle.tape_model.specs.Listing.{headLine, ticketLines, totalLine, refusedLine, listingUnless, listing, printed}
-use Rattle.tape_model.specs.Laws.{Valid}
+use Rattle.tape_model.specs.Listing.{refusedLine, listingUnless, listing, printed}
 use Rattle.tape_model.proofs.Tapes.{tapes-come-back}
 use Rattle.ticket.specs.Packing.{putInto}
 use Rattle.listing.specs.Contracts.{Wrote, Listed, textRoom}

@@ -1,8 +1,8 @@
 -- No listing is longer than 190,054 bytes: a head's line has at most 32, a ticket's line 38, and the line of totals 22.
 use mathlib.Core.Path.{_≡_, refl, ap, subst, _∙_}
-use mathlib.Core.Bool.{Bool, true, false, not, _&&_}
+use mathlib.Core.Bool.{Bool, true, false}
 use mathlib.Core.List.{List, [], _∷_, _++_}
-use Prim.Native.Nat.{ℕ, zero, suc, _+_, _-_, _*_, _/_, _%_, _^_, _≤_, _<_}
+use Prim.Native.Nat.{ℕ, zero, suc, _+_, _*_, _/_, _%_, _^_, _≤_, _<_}
 use native.Mathlib.Omega.{arith}
 use lib.Dec.{eqb, ltb}
 use lib.ListN.{length, take, drop, replicate, length-append}
@@ -13,9 +13,10 @@ use Rattle.tape_model.specs.declared.Ticket.{Ticket}
 use Rattle.tape_model.specs.declared.Head.{Head}
 use Rattle.tape_model.specs.Format.{widths, inRanges, unpack}
 use Rattle.tape_model.specs.Ticket.{form1, ticketLength, ticketOf, ordered, valuesRule, net, unpackTicket, headFormat, headLength, headOf, unpackHead}
-use Rattle.tape_model.specs.Tape.{ticketLimit, unpackTickets, isRefused, ticketsIn, totalNet, headBytes, ticketCount, plainBytes, openRefusal}
+use Rattle.tape_model.specs.Tape.{ticketLimit, unpackTickets, ticketsIn, totalNet, headBytes, ticketCount, plainBytes, openRefusal}
 use Rattle.tape_model.specs.Listing.{space, lineEnd, wordTape, wordTotal, wordRefused, decimalBelow, decimal, numbers, headLine, ticketLine, ticketLines, totalLine, refusedLine, listed, listingUnless, listing}
 use Rattle.tape_model.proofs.Ranges.{in-ranges}
+use Rattle.tape_model.proofs.Inverses.{unpack-passed}
 use Rattle.tape_model.proofs.Opening.{size, tickets-good}
 use Rattle.tape_model.proofs.Listing.{decimal-length}
 use Rattle.listing.specs.Contracts.{textRoom}
@@ -131,19 +132,13 @@ head-line-length h d s t =
 
 -- ## What unpacks is short
 
--- what an unpacking that was not refused comes to, by its two tests
-passed : {A : Type 0} (sized good : Bool) (n : ℕ) (a b : A) → (refused 2 if not sized else refused n if not good else done a) ≡ done b → (good ≡ true) × (a ≡ b)
-passed true true n a b e = (refl, cc)
-passed true false n a b e = let z : _≡_ {A = ℕ} 0 1 = cc in absurd (omega arith)
-passed false good n a b e = let z : _≡_ {A = ℕ} 0 1 = cc in absurd (omega arith)
-
 ticket-short : (string : List ℕ) (t : Ticket) → unpackTicket string ≡ done t → Short t
 unfolding unpackTicket valuesRule net
 ticket-short string t e =
     let vs = unpack (widths form1) string in
-    let p = passed (eqb (length string) ticketLength) (valuesRule vs) 8 (ticketOf vs) t e in
-    let r = in-ranges form1 vs (both (inRanges form1 vs) (ordered (ticketOf vs)) (p .0) .0) in
-    subst Short (p .1)
+    let p = unpack-passed 8 (eqb (length string) ticketLength) (valuesRule vs) (ticketOf vs) t e in
+    let r = in-ranges form1 vs (both (inRanges form1 vs) (ordered (ticketOf vs)) (p .1) .0) in
+    subst Short (p .2)
     (record {
       truck-short = omega (arith, r .1 .0 .1);
       shovel-short = omega (arith, r .1 .1 .0 .1);
@@ -166,9 +161,9 @@ head-short : (string : List ℕ) (h : Head) → unpackHead string ≡ done h →
 unfolding unpackHead
 head-short string h e =
     let vs = unpack (widths headFormat) string in
-    let p = passed (eqb (length string) headLength) (inRanges headFormat vs) 3 (headOf vs) h e in
-    let r = in-ranges headFormat vs (p .0) in
-    subst (λ (g : Head). length (headLine g) ≤ 32) (p .1) (head-line-length (headOf vs) (omega (arith, r .0 .1)) (omega (arith, r .1 .0 .1)) (omega (arith, r .1 .1 .0 .1)))
+    let p = unpack-passed 3 (eqb (length string) headLength) (inRanges headFormat vs) (headOf vs) h e in
+    let r = in-ranges headFormat vs (p .1) in
+    subst (λ (g : Head). length (headLine g) ≤ 32) (p .2) (head-line-length (headOf vs) (omega (arith, r .0 .1)) (omega (arith, r .1 .0 .1)) (omega (arith, r .1 .1 .0 .1)))
 
 -- ## The listing
 

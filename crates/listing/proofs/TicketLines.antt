@@ -1,11 +1,11 @@
 -- A ticket's line from its parts, and the lines of the tickets that are left.
-use mathlib.Core.Path.{_≡_, refl, sym, ap, subst, _∙_}
+use mathlib.Core.Path.{_≡_, refl, sym, ap, _∙_}
 use mathlib.Core.Bool.{true, false}
 use mathlib.Core.List.{List, [], _∷_, _++_, append-assoc, append-nil}
-use Prim.Native.Nat.{ℕ, zero, suc, _+_, _-_, _*_, _/_, _≤_, _<_}
+use Prim.Native.Nat.{ℕ, suc, _+_, _-_, _/_, _≤_, _<_}
 use native.Mathlib.Omega.{arith}
 use lib.ListN.{length, getD, take, drop, length-append, take-append-drop}
-use lib.Seq.{take-all, take-suc, drop-drop, length-take-le}
+use lib.Seq.{take-all, take-suc, length-take-le}
 use borrow.Author.Tests.{lt-leb}
 use borrow.Rule.Slice.PartMut.{putMid}
 use Rattle.tape_model.specs.declared.Ticket.{Ticket}
@@ -14,13 +14,12 @@ use denote.Enum.Declared.{declared, tagOf}
 use Rattle.tape_model.specs.declared.NextTicket.{NextTicket}
 use Rattle.tape_model.specs.declared.NextTicket.the-variants.{Refused, Done, End}
 use Rattle.tape_model.proofs.NextTicket.{enum as next-ticket}
-use Rattle.acorn_model.specs.Calls.{Reply, refused, done}
-use Rattle.tape_model.specs.Ticket.{unpackTicket}
-use Rattle.tape_model.specs.Tape.{ticketsLength, ticketThen, unpackTickets, isRefused, ticketsIn}
-use Rattle.tape_model.specs.Reader.{Reading, ticket, atEnd, handedOut, readNext, nextReply}
-use Rattle.tape_model.specs.Listing.{lineEnd, decimal, numbers, ticketLine, ticketLines}
+use Rattle.acorn_model.specs.Calls.{done}
+use Rattle.tape_model.specs.Tape.{ticketsLength, unpackTickets, isRefused, ticketsIn}
+use Rattle.tape_model.specs.Reader.{ticket, handedOut, readNext, nextReply}
+use Rattle.tape_model.specs.Listing.{lineEnd, decimal, numbers, ticketNumbers, ticketLine, ticketLines}
 use Rattle.tape_model.proofs.Unpacking.{unpacked-count, unpacked-at, told}
-use Rattle.listing.specs.Contracts.{Wrote, ticketNumbers, unpacked, linesOf}
+use Rattle.listing.specs.Contracts.{Wrote, unpacked, linesOf}
 use Rattle.listing.proofs.Texts.{wrote-as, behind-start, behind-room, behind-wrote, behind-within}
 
 -- ## One line
@@ -30,7 +29,7 @@ module _ (position : ℕ) (t : Ticket) (ns out : List ℕ) (ns-are : ns ≡ tick
   rest = numbers ns ++ lineEnd
 
   parts : decimal position ++ rest ≡ ticketLine position t
-  unfolding ticketLine ticketNumbers
+  unfolding ticketLine
   parts = ap (λ (l : List ℕ). decimal position ++ (numbers l ++ lineEnd)) ns-are ∙ sym (append-assoc (decimal position) (numbers (ticketNumbers t)) lineEnd)
 
   parts-room : length (decimal position ++ rest) ≤ length out

@@ -1,15 +1,15 @@
 -- A listing from its parts: the head's line, the tickets' lines and the line of totals, each behind the one before.
-use mathlib.Core.Path.{_≡_, ap, ap₂, _∙_}
-use mathlib.Core.List.{List, [], _∷_, _++_}
+use mathlib.Core.Path.{_≡_, ap, ap₂}
+use mathlib.Core.List.{List, _++_}
 use Prim.Native.Nat.{ℕ, _/_, _≤_}
 use native.Mathlib.Omega.{arith}
 use lib.ListN.{length, length-append}
 use Rattle.acorn_model.specs.Calls.{done}
 use Rattle.tape_model.specs.declared.Ticket.{Ticket}
 use Rattle.tape_model.specs.declared.Head.{Head}
-use Rattle.tape_model.specs.Tape.{unpackTickets, ticketsIn}
-use Rattle.tape_model.specs.Listing.{lineEnd, wordTotal, numbers, headLine, totalLine, listed}
-use Rattle.listing.specs.Contracts.{PlainTickets, unpacked, linesOf, totalsLine}
+use Rattle.tape_model.specs.Tape.{ticketsIn}
+use Rattle.tape_model.specs.Listing.{headLine, totalsLine, totalLine, listed}
+use Rattle.listing.specs.Contracts.{PlainTickets, unpacked, linesOf}
 use Rattle.tape_model.proofs.Unpacking.{unpacked-count, told}
 
 module _ (head : Head) (plain out : List ℕ) (net : ℕ) (p : PlainTickets plain net) (room : length (listed (done head) (ticketsIn (unpacked plain))) ≤ length out) where
@@ -21,8 +21,8 @@ module _ (head : Head) (plain out : List ℕ) (net : ℕ) (p : PlainTickets plai
   count = let c = unpacked-count (length plain / 13) plain tickets (told (unpacked plain) (p .good)) in omega (arith, c)
 
   pub whole : headLine head ++ linesOf plain ++ totalsLine (length plain / 13) net ≡ listed (done head) tickets
-  unfolding listed linesOf totalsLine totalLine
-  whole = ap₂ (λ (k n : ℕ). headLine head ++ linesOf plain ++ (wordTotal ++ numbers (k ∷ n ∷ []) ++ lineEnd)) count (p .net-is)
+  unfolding listed linesOf totalLine
+  whole = ap₂ (λ (k n : ℕ). headLine head ++ linesOf plain ++ totalsLine k n) count (p .net-is)
 
   pub whole-room : length (headLine head ++ linesOf plain ++ totalsLine (length plain / 13) net) ≤ length out
   whole-room = omega (arith, ap length whole)

@@ -1,16 +1,16 @@
 -- How the listing's functions are held against the text that document 01 has printed.
 use mathlib.Core.Path.{_≡_}
 use mathlib.Core.Bool.{true, false}
-use mathlib.Core.List.{List, [], _∷_, _++_}
+use mathlib.Core.List.{List}
 use Prim.Native.Nat.{ℕ, _*_, _/_}
 use lib.ListN.{length}
 use Rattle.acorn_model.specs.declared.Written.{Written}
 use Rattle.acorn_model.specs.Calls.{Reply, writtenReply, writtenOver}
 use Rattle.tape_model.specs.declared.Ticket.{Ticket}
-use Rattle.tape_model.specs.Ticket.{ticketLength, net}
+use Rattle.tape_model.specs.Ticket.{ticketLength}
 use Rattle.tape_model.specs.Tape.{ticketLimit, ticketsLength, unpackTickets, isRefused, ticketsIn, totalNet}
 use Rattle.ticket.specs.Packing.{putInto}
-use Rattle.tape_model.specs.Listing.{wordTotal, numbers, lineEnd, ticketLines}
+use Rattle.tape_model.specs.Listing.{ticketLines}
 
 -- the text was written over the start of `before`, its length answered, and `after` is what stands there now
 pub record Wrote (text before : List ℕ) (answer : ℕ) (after : List ℕ) : Type 0 where
@@ -31,20 +31,12 @@ longestPlain = ticketLength * ticketLimit
 
 -- ## What the private functions cite
 
--- the numbers of a ticket's line behind its position
-unfoldable pub ticketNumbers : Ticket → List ℕ
-ticketNumbers t = t .truck ∷ t .shovel ∷ t .tip ∷ t .grade ∷ t .loaded ∷ t .tipped ∷ net t ∷ []
-
 -- the tickets in opened bytes, and their lines
 unfoldable pub unpacked : List ℕ → Reply (List Ticket)
 unpacked plain = unpackTickets (length plain / ticketLength) plain
 
 unfoldable pub linesOf : List ℕ → List ℕ
 linesOf plain = ticketLines 1 (ticketsIn (unpacked plain))
-
--- the last line, by the number of tickets and their total net
-unfoldable pub totalsLine : ℕ → ℕ → List ℕ
-totalsLine tickets net = wordTotal ++ numbers (tickets ∷ net ∷ []) ++ lineEnd
 
 -- bytes that unpack to tickets of this total net
 pub record PlainTickets (plain : List ℕ) (total : ℕ) : Type 0 where

@@ -12,7 +12,7 @@ ghost use Prim.Native.Nat.{_≤_};
 ghost use lib.ListN.{length};
 ghost use Rattle.tape_model.specs.Tape.{ticketsLength, isRefused};
 ghost use Rattle.tape_model.specs.Listing as model;
-ghost use Rattle.listing.specs.Contracts.{Wrote, ticketNumbers, unpacked, linesOf, totalsLine};
+ghost use Rattle.listing.specs.Contracts.{Wrote, unpacked, linesOf};
 
 pub(crate) fn put_refused_line(number: u8, out: &mut [u8]) -> usize
     requires { ⌜ length (model.refusedLine number) ≤ length (now out) ⌝ }
@@ -31,8 +31,8 @@ pub(crate) fn put_head_line(head: Head, out: &mut [u8]) -> usize
 }
 
 pub(crate) fn put_total_line(tickets: usize, net: u64, out: &mut [u8]) -> usize
-    requires { ⌜ length (totalsLine tickets net) ≤ length (now out) ⌝ }
-    ensures { λ r. ⌜ Wrote (totalsLine tickets net) (now (out .entry)) r (now (out .exit)) ⌝ }
+    requires { ⌜ length (model.totalsLine tickets net) ≤ length (now out) ⌝ }
+    ensures { λ r. ⌜ Wrote (model.totalsLine tickets net) (now (out .entry)) r (now (out .exit)) ⌝ }
 {
     let ns = [tickets as u64, net];
     put_line(b"TOTAL", &ns, out)
@@ -40,7 +40,7 @@ pub(crate) fn put_total_line(tickets: usize, net: u64, out: &mut [u8]) -> usize
 
 // The numbers of a ticket's line, but for its position.
 fn ticket_numbers(t: Ticket) -> [u64; 7]
-    ensures { λ r. ⌜ r ≡ ticketNumbers t ⌝ }
+    ensures { λ r. ⌜ r ≡ model.ticketNumbers t ⌝ }
 {
     [
         t.truck as u64,

@@ -1,8 +1,8 @@
 -- Opening from its parts: the number that the sizes give, the text run into the scratch, the tag compared, and the text copied.
-use mathlib.Core.Path.{_≡_, refl, sym, ap, ap₂, _∙_}
+use mathlib.Core.Path.{_≡_, sym, ap, ap₂, _∙_}
 use mathlib.Core.Bool.{Bool, true, false, not}
 use mathlib.Core.List.{List, _++_}
-use Prim.Native.Nat.{ℕ, zero, suc, _+_, _-_, _≤_}
+use Prim.Native.Nat.{ℕ, _+_, _-_, _≤_}
 use native.Mathlib.Omega.{arith}
 use lib.Dec.{ltb}
 use lib.ListN.{length, take, drop, length-drop}
@@ -12,6 +12,7 @@ use Rattle.acorn_model.specs.Bits.{Bits, _if_else_}
 use Rattle.acorn_model.specs.Stretches.{tagLength, through, textPiece, textEnd, textOut, tagOf, afterData}
 use Rattle.acorn_model.specs.Calls.{refused, done, unlessRefused, writtenOver, sameBytes}
 use Rattle.acorn_model.specs.Message.{resultOf, cipherPart, tagPart, tagMatches, opened, tagRefusal, openRefusal, openMessage}
+use Rattle.acorn_model.proofs.Refusals.{refused-if}
 use Rattle.acorn_model.proofs.Agree.{decrypted-agrees, newTag-agrees}
 use Rattle.acorn_model.proofs.Outputs.{decrypted-length}
 use Rattle.acorn_model.proofs.Messages.{Openable, open-told, opened-length, result-written, result-refused}
@@ -21,18 +22,13 @@ use Rattle.acorn.specs.Runs.{TextRun}
 7-or-none true n h0 h7 e = h0 (sym e)
 7-or-none false n h0 h7 e = h7 (sym e)
 
-refused-by : (n t r : ℕ) → r ≡ unlessRefused n t n → (n ≡ 0 → ⊥) → r ≡ n
-unfolding unlessRefused
-refused-by zero t r e h = absurd (h refl)
-refused-by (suc n) t r e h = e
-
 module _ (key nonce «data» s out : List ℕ) where
   -- ## The number that the sizes give
 
   module _ (n : ℕ) (number : openRefusal key nonce «data» s out ≡ unlessRefused n (tagRefusal key nonce «data» s) n) where
     pub sent-back : (n ≡ 0 → ⊥) → openMessage key nonce «data» s out ≡ record { answer = refused n; out = out }
     unfolding openMessage
-    sent-back h = rw (refused-by n (tagRefusal key nonce «data» s) _ number h) (result-refused n _ _ out h)
+    sent-back h = rw (number ∙ refused-if n (tagRefusal key nonce «data» s) n h) (result-refused n _ _ out h)
 
     pub let-through : n ≡ 0 → openRefusal key nonce «data» s out ≡ tagRefusal key nonce «data» s
     unfolding unlessRefused

@@ -11,7 +11,7 @@ use acorn_model::Written;
 use compare::same_bytes;
 ghost use mathlib.Core.Path.{_≡_};
 ghost use Prim.Native.Nat.{_+_, _≤_};
-ghost use lib.ListN.{length, replicate};
+ghost use lib.ListN.{length};
 ghost use Rattle.acorn_model.specs.Stretches.{tagLength, afterData};
 ghost use Rattle.acorn_model.specs.Calls.{writtenReply, unlessRefused, sameBytes};
 ghost use Rattle.acorn_model.specs.Machine.{keyAndNonceRight};
@@ -110,24 +110,6 @@ fn open_by(
     }
 }
 
-fn zeros_512() -> [u8; 512]
-    ensures { λ r. ⌜ r ≡ replicate 512 0 ⌝ }
-{
-    [0; 512]
-}
-
-fn zeros_8192() -> [u8; 8192]
-    ensures { λ r. ⌜ r ≡ replicate 8192 0 ⌝ }
-{
-    [0; 8192]
-}
-
-fn zeros_65536() -> [u8; 65536]
-    ensures { λ r. ⌜ r ≡ replicate 65536 0 ⌝ }
-{
-    [0; 65536]
-}
-
 // Writes the text that ciphertext and tag open to. 2: key or nonce not of 16 bytes, or fewer sealed bytes than 16; 5: data or text over 65,536
 // bytes; 6: an output without room for the text; 7: a tag that differs. The scratch is cleared first, so a short message gets a short one.
 pub fn open(key: &[u8], nonce: &[u8], data: &[u8], sealed: &[u8], out: &mut [u8]) -> Written
@@ -138,13 +120,13 @@ pub fn open(key: &[u8], nonce: &[u8], data: &[u8], sealed: &[u8], out: &mut [u8]
         return Written::Refused(number);
     }
     if sealed.len() <= 512 + 16 {
-        let mut scratch = zeros_512();
+        let mut scratch = [0; 512];
         return open_by(&mut scratch, key, nonce, data, sealed, out);
     }
     if sealed.len() <= 8192 + 16 {
-        let mut scratch = zeros_8192();
+        let mut scratch = [0; 8192];
         return open_by(&mut scratch, key, nonce, data, sealed, out);
     }
-    let mut scratch = zeros_65536();
+    let mut scratch = [0; 65536];
     open_by(&mut scratch, key, nonce, data, sealed, out)
 }

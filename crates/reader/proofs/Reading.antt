@@ -23,7 +23,7 @@ use Rattle.tape_model.proofs.Tapes.{tickets-length, tickets-unpack, length-allo
 use Rattle.tape_model.proofs.Unpacking.{unpacked-count, told}
 use Rattle.tape_model.proofs.Opening.{tickets-good, plain-length, was-accepted, count-is, net-is, few-tickets, front}
 use Rattle.reader.specs.declared.Reader.{Reader}
-use Rattle.reader.specs.declared.Handed.{Handed}
+use Rattle.reader.specs.declared.ReaderReply.{ReaderReply}
 use Rattle.reader.specs.Contracts.{readerAt, readerOf, outcomeOf, NextCalled}
 use Rattle.reader.specs.Reading.{NextCalls, none, call, ReaderList, inTurn, HandsOut, ReadingLaws}
 use Rattle.reader.proofs.Cases.{wrong-size, no-more, unpacked, not-unpacked}
@@ -76,7 +76,7 @@ same-string r =
     by false false (refused n) = refl
     by false false (done t) = refl
 
-reply : (r : Reader) → (h : Handed) × NextCalled r h
+reply : (r : Reader) → (h : ReaderReply) × NextCalled r h
 unfolding readerOf outcomeOf
 reply r =
     let o : ReadOutcome = readNext (readerOf r) in (

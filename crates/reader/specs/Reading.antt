@@ -17,7 +17,7 @@ use Rattle.tape_model.specs.Tape.{ticketLimit, tapeOf, ticketsLength, isRefused
 use Rattle.tape_model.specs.Reader.{Reading, ticket, atEnd, readerOver, nextReply}
 use Rattle.tape_model.specs.Laws.{Valid, readings, readerAfter}
 use Rattle.reader.specs.declared.Reader.{Reader}
-use Rattle.reader.specs.declared.Handed.{Handed}
+use Rattle.reader.specs.declared.ReaderReply.{ReaderReply}
 use Rattle.reader.specs.Contracts.{readerAt, readerOf, Made, NextCalled}
 
 -- ## Calls one after the other
@@ -26,7 +26,7 @@ use Rattle.reader.specs.Contracts.{readerAt, readerOf, Made, NextCalled}
 -- answers, and the last handed back e. Of each call it is known what the contract says, and nothing else.
 pub data NextCalls : Reader → List (Reply Reading) → Reader → Type 0 where
   none : {r : Reader} → NextCalls r [] r
-  call : {r e : Reader} {answers : List (Reply Reading)} (h : Handed) → NextCalled r h → NextCalls (h .reader) answers e
+  call : {r e : Reader} {answers : List (Reply Reading)} (h : ReaderReply) → NextCalled r h → NextCalls (h .reader) answers e
       → NextCalls r (nextReply (h .answer) ∷ answers) e
 
 -- a reader was made over lent bytes, and calls on it gave these answers and led to the reader e

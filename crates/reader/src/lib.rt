@@ -1,23 +1,16 @@
 // The reader: it hands out the tickets of opened bytes in turn, and after the last says that it is at the end. Each call takes the reader and
 // hands back the reader after it, with an answer. The work is done by `read_at`, whose parameters are plain.
 ghost use mathlib.Core.Path.{_≡_};
-ghost use Rattle.tape_model.specs.Tape.{ticketsLength};
 ghost use Rattle.tape_model.specs.Reader.{readNext};
 ghost use Rattle.reader.specs.Contracts.{readerAt, readOutcome, Made, NextCalled};
 use tape_model::NextTicket;
 use tape_model::UnpackedTicket;
+use ticket::tickets_length;
 
 // What stands at a position, and the position after it. A position is the number of tickets before it: 0 before the first.
 pub struct ReadAt {
     pub position: usize,
     pub answer: NextTicket,
-}
-
-// Whether so many bytes are 13 for each of at most 5,000 tickets.
-fn tickets_length(n: usize) -> bool
-    ensures { λ r. ⌜ r ≡ ticketsLength n ⌝ }
-{
-    (n % 13 == 0) & (n / 13 <= 5000)
 }
 
 // The ticket at a position of opened bytes: 2 for bytes of a wrong size, 8 where the ticket does not unpack, and the position stays.
@@ -59,7 +52,7 @@ pub struct Reader<'a> {
 }
 
 // What a call answered, and the reader after it.
-pub struct Handed<'a> {
+pub struct ReaderReply<'a> {
     pub reader: Reader<'a>,
     pub answer: NextTicket,
 }
@@ -73,11 +66,11 @@ impl<'a> Reader<'a> {
     }
 
     // Hands out the next ticket.
-    pub fn next(self) -> Handed<'a>
+    pub fn next(self) -> ReaderReply<'a>
         ensures { λ h. ⌜ NextCalled (self .entry) h ⌝ }
     {
         let read = read_at(self.bytes, self.position);
-        Handed {
+        ReaderReply {
             reader: Reader {
                 bytes: self.bytes,
                 position: read.position,

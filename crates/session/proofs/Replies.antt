@@ -1,13 +1,13 @@
 -- A call's whole outcome, from its refusal number and the session after it.
-use mathlib.Core.Path.{_≡_, refl, sym, ap, ap₂, _∙_}
+use mathlib.Core.Path.{_≡_, sym, ap, ap₂, _∙_}
 use mathlib.Core.Bool.{Bool, true, false}
 use mathlib.Core.List.{List, []}
-use Prim.Native.Nat.{ℕ, zero, suc, _<_, _^_}
-use native.Mathlib.Omega.{arith}
+use Prim.Native.Nat.{ℕ, _<_, _^_}
 use lib.ListN.{length}
 use Rattle.acorn_model.specs.Stretches.{tagOf}
-use Rattle.acorn_model.specs.Calls.{done, answerReply, unlessRefused, writtenOver, sameBytes, refusedWith}
+use Rattle.acorn_model.specs.Calls.{done, answerReply, writtenOver, sameBytes, refusedWith}
 use Rattle.acorn_model.specs.Machine.{Machine, Call, checkClose, outputOf, phaseAllows, sizesRight, overLimit, outputShort, refusal, textEnded, closed, answered, wrote, verdict, work, call}
+use Rattle.acorn_model.proofs.Refusals.{refused-if, accepted-if, Passed, passed}
 use Rattle.session.specs.declared.Session.{Session}
 use Rattle.session.specs.declared.Reply.{Reply as SessionReply}
 use Rattle.session.specs.Contracts.{machineOf, outcomeOf, wrappedMachine, wrappedOutcome, Called, refusedReply, doneReply, refusalBy}
@@ -19,20 +19,6 @@ pub record Numbered (s : Session) (c : Call) (n : ℕ) : Type 0 where
 
 -- ## No number applies
 
--- the tests of an accepted call
-pub record Passes (m : Machine) (c : Call) : Type 0 where
-  pub allowed : phaseAllows (m .kind) (m .phase) c ≡ true
-  pub sized : sizesRight c ≡ true
-  pub fits : overLimit (m .counts) c ≡ false
-  pub room : outputShort c ≡ false
-
-chain : (allowed sized over short : Bool) → refusalBy allowed sized over short ≡ 0 → (allowed ≡ true) × (sized ≡ true) × (over ≡ false) × (short ≡ false)
-chain false sized over short e = absurd (omega arith)
-chain true false over short e = absurd (omega arith)
-chain true true true short e = absurd (omega arith)
-chain true true false true e = absurd (omega arith)
-chain true true false false e = (refl, refl, refl, refl)
-
 -- the number of a call whose four tests come out so
 pub by-tests : {s : Session} {c : Call} {n : ℕ} (allowed sized over short : Bool) → n ≡ refusalBy allowed sized over short
     → phaseAllows (machineOf s .kind) (machineOf s .phase) c ≡ allowed → sizesRight c ≡ sized → overLimit (machineOf s .counts) c ≡ over → outputShort c ≡ short
@@ -40,22 +26,9 @@ pub by-tests : {s : Session} {c : Call} {n : ℕ} (allowed sized over short : Bo
 unfolding refusal
 by-tests allowed sized over short e a z o r = record { is = rw (a, z, o, r) e }
 
-refused-if : {A : Type 0} (n : ℕ) (a b : A) → (n ≡ 0 → ⊥) → unlessRefused n a b ≡ b
-unfolding unlessRefused
-refused-if zero a b z = absurd (z refl)
-refused-if (suc n) a b z = refl
-
-accepted-if : {A : Type 0} (n : ℕ) (a b : A) → n ≡ 0 → unlessRefused n a b ≡ a
-unfolding unlessRefused
-accepted-if zero a b z = refl
-accepted-if (suc n) a b z = absurd (omega arith)
-
 module _ {s : Session} {c : Call} {n : ℕ} (e : Numbered s c n) where
-  pub passes : n ≡ 0 → Passes (machineOf s) c
-  unfolding refusal
-  passes z =
-      let t = chain (phaseAllows (machineOf s .kind) (machineOf s .phase) c) (sizesRight c) (overLimit (machineOf s .counts) c) (outputShort c) (sym (e .is) ∙ z) in
-      record { allowed = t .0; sized = t .1; fits = t .2; room = t .3 }
+  pub passes : n ≡ 0 → Passed (machineOf s) c
+  passes z = passed (machineOf s) c (sym (e .is) ∙ z)
 
   -- ## Outcomes
 

@@ -1,5 +1,6 @@
--- Counts that go round at 2 ^ 64. A call on a machine whose count went round comes to the same once the count goes round (`wrapped-call`); an
--- outcome whose count is below 2 ^ 64 stays as it is (`call-within`), and what a session's call comes to is then what the machine does.
+-- Counts that wrap around at 2 ^ 64. A call on a machine whose count wrapped around comes to the same once the count wraps around
+-- (`wrapped-call`); an outcome whose count is below 2 ^ 64 stays as it is (`call-within`), and what a session's call comes to is then what the
+-- machine does.
 use mathlib.Core.Path.{_≡_, refl, sym, ap, ap₂, _∙_}
 use mathlib.Core.Bool.{Bool, true, false}
 use mathlib.Core.List.{List, []}
@@ -16,7 +17,7 @@ use Rattle.session.specs.declared.Session.{Session}
 use Rattle.session.specs.declared.Reply.{Reply as SessionReply}
 use Rattle.session.specs.Contracts.{machineOf, outcomeOf, wrapped, wrappedMachine, wrappedReply, wrappedOutcome, Called}
 
--- ## Outcomes go round with their machine
+-- ## Outcomes wrap around with their machine
 
 -- good or 7: what a checking close that led to the machine m comes to
 abbrev pub judged : Bool → Machine → Outcome Machine Work
@@ -38,7 +39,7 @@ pub refused-wrapped : (n : ℕ) (out : List ℕ) (m : Machine) → wrappedOutcom
 unfolding wrappedOutcome wrappedReply refusedWith
 refused-wrapped n out m = refl
 
--- ## Two machines that are the same once their counts go round
+-- ## Two machines that are the same once their counts wrap around
 
 wrapped-add : (n k : ℕ) → wrapped (wrapped n + k) ≡ wrapped (n + k)
 unfolding wrapped
@@ -124,7 +125,7 @@ module _ (a b : Machine) (e : wrappedMachine a ≡ wrappedMachine b) where
   same-unlessRefused (suc n) c =
       refused-wrapped (suc n) (outputOf c) a ∙ ap (λ (m : Machine). refusedWith (suc n) m (outputOf c)) e ∙ sym (refused-wrapped (suc n) (outputOf c) b)
 
-  -- a call's outcomes are the same, once the counts go round
+  -- a call's outcomes are the same, once the counts wrap around
   pub same-call : (c : Call) → wrappedOutcome (call a c) ≡ wrappedOutcome (call b c)
   unfolding call
   same-call c =
@@ -134,7 +135,7 @@ module _ (a b : Machine) (e : wrappedMachine a ≡ wrappedMachine b) where
 pub wrapped-call : (m : Machine) (c : Call) → wrappedOutcome (call (wrappedMachine m) c) ≡ wrappedOutcome (call m c)
 wrapped-call m c = same-call (wrappedMachine m) m (wrapped-twice m) c
 
--- ## Counts that do not go round
+-- ## Counts that do not wrap around
 
 pub within : (m : Machine) → m .counts .steps < 2 ^ 64 → wrappedMachine m ≡ m
 unfolding wrappedMachine wrapped
@@ -165,7 +166,7 @@ call-within m c h = unlessRefused-within (refusal m c) m c h
 
 -- ## What a session's call comes to
 
--- on a session that stands for a machine whose count went round
+-- on a session that stands for a machine whose count wrapped around
 pub called-wrapped : (s : Session) (c : Call) (r : SessionReply) (out : List ℕ) (m : Machine) → machineOf s ≡ wrappedMachine m → Called s c r out
     → outcomeOf r out ≡ wrappedOutcome (call m c)
 called-wrapped s c r out m e h = h ∙ ap (λ (x : Machine). wrappedOutcome (call x c)) e ∙ wrapped-call m c

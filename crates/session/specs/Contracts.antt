@@ -30,7 +30,7 @@ outcomeOf r out = record { next = machineOf (r .session); answer = answerReply (
 
 -- ## Counting in 64 bits
 
--- A session's count of steps goes round at 2 ^ 64. A session that was fresh comes nowhere near, but a value of the struct may hold any count.
+-- A session's count of steps wraps around at 2 ^ 64. A session that was fresh comes nowhere near, but a value of the struct may hold any count.
 unfoldable pub wrapped : ℕ → ℕ
 wrapped n = n % 2 ^ 64
 

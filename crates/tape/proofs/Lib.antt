@@ -1,7 +1,6 @@
 -- The laws that the proofs of the functions cite.
 pub mod Packed
 pub mod WriterCalls
-pub mod Within
 pub mod Sizes
 pub mod Decrypting
 pub mod OpenedParts

@@ -11,6 +11,7 @@ use Rattle.acorn_model.specs.Bits.{_if_else_}
 use Rattle.acorn_model.specs.Calls.{refused, unlessRefused}
 use Rattle.acorn_model.specs.Machine.{keyLength}
 use Rattle.acorn_model.specs.Message.{resultOf, tagMatches}
+use Rattle.acorn_model.proofs.Refusals.{refused-if}
 use Rattle.tape_model.specs.Ticket.{ticketLength, unpackHead}
 use Rattle.tape_model.specs.Tape.{nonceOf, unpackTickets, isRefused, emptyTapeLength, tapeLength, headBytes, sealedBytes, ticketCount, plainBytes, openRefusal, openTape}
 use Rattle.tape_model.proofs.Opening.{TapeSize, sizes-told, text-length}
@@ -29,11 +30,6 @@ by-text false fails n h7 h8 h0 e = h7 (sym e)
 by-text true true n h7 h8 h0 e = h8 (sym e)
 by-text true false n h7 h8 h0 e = h0 (sym e)
 
-refused-by : (n t r : ℕ) → r ≡ unlessRefused n t n → (n ≡ 0 → ⊥) → r ≡ n
-unfolding unlessRefused
-refused-by zero t r e h = absurd (h refl)
-refused-by (suc n) t r e h = e
-
 -- the numbers 2, 3 and 6 do not apply
 pub record Openable (key tape out : List ℕ) : Type 0 where
   pub key-size : length key ≡ keyLength
@@ -47,7 +43,7 @@ module _ (key tape out : List ℕ) where
 
   module _ (n : ℕ) (number : openRefusal key tape out ≡ unlessRefused n (textRefusal key tape) n) where
     pub sent-back : (n ≡ 0 → ⊥) → openTape key tape out ≡ record { answer = refused n; out = out }
-    sent-back h = by n (refused-by n (textRefusal key tape) _ number h) h
+    sent-back h = by n (number ∙ refused-if n (textRefusal key tape) n h) h
       where
         by : (m : ℕ) → openRefusal key tape out ≡ m → (m ≡ 0 → ⊥) → openTape key tape out ≡ record { answer = refused m; out = out }
         by zero e z = absurd (z refl)

@@ -1,20 +1,20 @@
 -- What a writer's call comes to, from its refusal number and the session's replies.
 use mathlib.Core.Path.{_≡_, refl, sym, ap, _∙_}
-use mathlib.Core.Bool.{Bool, true, false, not}
 use mathlib.Core.List.{List, []}
 use Prim.Native.Nat.{ℕ, zero, suc, _<_, _^_}
 use native.Mathlib.Omega.{arith}
 use Rattle.acorn_model.specs.declared.Answer.the-variants.{Refused, Done}
-use Rattle.acorn_model.specs.Bits.{_if_else_}
-use Rattle.acorn_model.specs.Calls.{Reply, refused, done, Work, answerReply, accepted, unlessRefused, writtenOver, Outcome, refusedWith}
+use Rattle.acorn_model.specs.Calls.{Reply, refused, done, Work, answerReply, unlessRefused, writtenOver, Outcome, refusedWith}
 use Rattle.acorn_model.specs.Machine as machine
 use Rattle.acorn_model.specs.Machine.{Machine, begin, dataCall, sealText, sealClose, wrote, answered}
 use Rattle.tape_model.specs.declared.Head.{Head}
 use Rattle.tape_model.specs.declared.WriterPhase.{WriterPhase}
 use Rattle.tape_model.specs.declared.WriterPhase.the-variants.{Open}
 use Rattle.tape_model.specs.Ticket.{headLength, packHead}
-use Rattle.tape_model.specs.Writer.{PlainWriter, WriterCall, outputOf, phaseAllows, keyRight, headRight, ticketRight, tapeFull, outputShort, refusal, onAnswer, passedOn, started, start, work, writerCall}
+use Rattle.tape_model.specs.Writer.{PlainWriter, WriterCall, outputOf, refusal, onAnswer, passedOn, started, start, work, writerCall}
 use Rattle.tape_model.specs.Tape.{nonceOf}
+use Rattle.acorn_model.proofs.Refusals.{refused-if, accepted-if}
+use Rattle.tape_model.proofs.Refusals.{WriterPassed, writer-passed}
 use Rattle.session.specs.declared.Session.{Session}
 use Rattle.session.specs.declared.Reply.{Reply as SessionReply}
 use Rattle.session.specs.Contracts as session
@@ -26,35 +26,7 @@ use Rattle.tape.specs.Contracts.{writerOf, outcomeOf, wrappedWriter, wra
 
 -- ## By the number
 
-refused-if : {A : Type 0} (n : ℕ) (a b : A) → (n ≡ 0 → ⊥) → unlessRefused n a b ≡ b
-unfolding unlessRefused
-refused-if zero a b z = absurd (z refl)
-refused-if (suc n) a b z = refl
-
-accepted-if : {A : Type 0} (n : ℕ) (a b : A) → n ≡ 0 → unlessRefused n a b ≡ a
-unfolding unlessRefused
-accepted-if zero a b z = refl
-accepted-if (suc n) a b z = absurd (omega arith)
-
--- the tests of an accepted call
-pub record Passes (w : PlainWriter) (c : WriterCall) : Type 0 where
-  pub headed : headRight c ≡ true
-  pub ticketed : ticketRight c ≡ true
-  pub free : tapeFull (w .tickets) c ≡ false
-  pub room : outputShort c ≡ false
-
-chain : (allowed keyed headed ticketed full short : Bool)
-    → (1 if not allowed else 2 if not keyed else 3 if not headed else 4 if not ticketed else 5 if full else 6 if short else accepted) ≡ 0
-    → (headed ≡ true) × (ticketed ≡ true) × (full ≡ false) × (short ≡ false)
-chain false keyed headed ticketed full short e = absurd (omega arith)
-chain true false headed ticketed full short e = absurd (omega arith)
-chain true true false ticketed full short e = absurd (omega arith)
-chain true true true false full short e = absurd (omega arith)
-chain true true true true true short e = absurd (omega arith)
-chain true true true true false true e = absurd (omega arith)
-chain true true true true false false e = (refl, refl, refl, refl)
-
--- a count below 2 ^ 64 does not go round
+-- a count below 2 ^ 64 does not wrap around
 stays : (w : Writer) → w .session .steps < 2 ^ 64 → writerOf w ≡ wrappedWriter (writerOf w)
 unfolding writerOf wrappedWriter machineOf
 stays w h = let e = within (machineOf (w .session)) h in λ i. record { machine = sym e i; phase = w .phase; tickets = w .tickets }
@@ -64,11 +36,8 @@ unfolding wrappedWriterOutcome wrappedReply refusedWith
 refused-wrapped n w out = refl
 
 module _ (w : Writer) (c : WriterCall) (n : ℕ) (e : n ≡ refusal (writerOf w) c) where
-  pub passes : n ≡ 0 → Passes (writerOf w) c
-  unfolding refusal
-  passes z =
-      let t = chain (phaseAllows (writerOf w .phase) c) (keyRight c) (headRight c) (ticketRight c) (tapeFull (writerOf w .tickets) c) (outputShort c) (sym e ∙ z) in
-      record { headed = t .0; ticketed = t .1; free = t .2; room = t .3 }
+  pub passes : n ≡ 0 → WriterPassed (writerOf w) c
+  passes z = writer-passed (writerOf w) c (sym e ∙ z)
 
   -- a refused call hands the writer on as it was
   pub refuses : (n ≡ 0 → ⊥) → w .session .steps < 2 ^ 64 → (r : WriterReply) → r ≡ refusedReply n w → WriterCalled w c r (outputOf c)
@@ -84,7 +53,7 @@ module _ (w : Writer) (c : WriterCall) (n : ℕ) (e : n ≡ refusal (writerOf w)
 
 -- ## By the session's answer
 
--- the machine's answer is in the case of the session's, whose count went round
+-- the machine's answer is in the case of the session's, whose count wrapped around
 module _ (a : Reply Work) (goOn : Work → Outcome PlainWriter Work) (w : PlainWriter) (out : List ℕ) where
   answer-refused : (n : ℕ) → wrappedReply a ≡ refused n → wrappedWriterOutcome (onAnswer a goOn w out) ≡ refusedWith n (wrappedWriter w) out
   unfolding wrappedReply onAnswer wrappedWriterOutcome refusedWith
@@ -170,53 +139,53 @@ module _ (s : Session) (key head : List ℕ) (r : SessionReply) (e : Called s (b
   abbrev begun : Outcome Machine Work
   begun = machine.call (machineOf s) (begin key (nonceOf head))
 
-  abbrev fed : Outcome Machine Work
-  fed = machine.call (begun .next) (dataCall head)
+  abbrev taken : Outcome Machine Work
+  taken = machine.call (begun .next) (dataCall head)
 
   -- begin is refused
   pub not-begun : (n : ℕ) → r .answer ≡ Refused n → session.outcomeOf r [] ≡ wrappedOutcome (headTaken (machineOf s) key head)
   unfolding headTaken wrappedReply
   not-begun n d = e ∙ ap wrappedOutcome (by (begun .answer) (says-refused r [] begun e n d))
     where
-      by : (a : Reply Work) → wrappedReply a ≡ refused n → begun ≡ unlessBegun a begun fed
+      by : (a : Reply Work) → wrappedReply a ≡ refused n → begun ≡ unlessBegun a begun taken
       by (refused k) f = refl
       by (done k) f = absurd (let z : _≡_ {A = ℕ} 0 1 = cc in omega arith)
 
   -- begin is accepted, and data follows
-  pub then-fed : (n k : ℕ) → r .answer ≡ Done n k → (r′ : SessionReply) → Called (r .session) (dataCall head) r′ []
+  pub then-taken : (n k : ℕ) → r .answer ≡ Done n k → (r′ : SessionReply) → Called (r .session) (dataCall head) r′ []
       → session.outcomeOf r′ [] ≡ wrappedOutcome (headTaken (machineOf s) key head)
   unfolding headTaken wrappedReply
-  then-fed n k d r′ called =
+  then-taken n k d r′ called =
       called-wrapped (r .session) (dataCall head) r′ [] (begun .next) (next-is r [] begun e) called
       ∙ ap wrappedOutcome (by (begun .answer) (says-done r [] begun e n k d))
     where
-      by : (a : Reply Work) → wrappedReply a ≡ done (record { bytes = n; steps = k }) → fed ≡ unlessBegun a begun fed
+      by : (a : Reply Work) → wrappedReply a ≡ done (record { bytes = n; steps = k }) → taken ≡ unlessBegun a begun taken
       by (refused j) f = absurd (let z : _≡_ {A = ℕ} 0 1 = cc in omega arith)
       by (done j) f = refl
 
-module _ (w : PlainWriter) (head : Head) (out : List ℕ) (begun fed : Outcome Machine Work) where
+module _ (w : PlainWriter) (head : Head) (out : List ℕ) (begun taken : Outcome Machine Work) where
   abbrev goOn : Work → Outcome PlainWriter Work
   goOn x =
       record {
-        next = record { machine = fed .next; phase = Open; tickets = w .tickets };
+        next = record { machine = taken .next; phase = Open; tickets = w .tickets };
         answer = done (record { bytes = headLength; steps = x .steps });
         out = writtenOver (packHead head) out;
       }
 
-  start-refused : (n : ℕ) → wrappedReply (unlessBegun (begun .answer) begun fed .answer) ≡ refused n
-      → wrappedWriterOutcome (started begun fed head w out) ≡ refusedWith n (wrappedWriter w) out
+  start-refused : (n : ℕ) → wrappedReply (unlessBegun (begun .answer) begun taken .answer) ≡ refused n
+      → wrappedWriterOutcome (started begun taken head w out) ≡ refusedWith n (wrappedWriter w) out
   unfolding started onAnswer
   start-refused n = by (begun .answer) refl
     where
-      by : (a : Reply Work) → begun .answer ≡ a → wrappedReply (unlessBegun a begun fed .answer) ≡ refused n
-          → wrappedWriterOutcome (onAnswer a (λ x. onAnswer (fed .answer) goOn w out) w out) ≡ refusedWith n (wrappedWriter w) out
-      by (refused k) d f = answer-refused (refused k) (λ x. onAnswer (fed .answer) goOn w out) w out n (ap wrappedReply (sym d) ∙ f)
-      by (done k) d f = answer-refused (fed .answer) goOn w out n f
+      by : (a : Reply Work) → begun .answer ≡ a → wrappedReply (unlessBegun a begun taken .answer) ≡ refused n
+          → wrappedWriterOutcome (onAnswer a (λ x. onAnswer (taken .answer) goOn w out) w out) ≡ refusedWith n (wrappedWriter w) out
+      by (refused k) d f = answer-refused (refused k) (λ x. onAnswer (taken .answer) goOn w out) w out n (ap wrappedReply (sym d) ∙ f)
+      by (done k) d f = answer-refused (taken .answer) goOn w out n f
 
-  start-done : (k : Work) → wrappedReply (unlessBegun (begun .answer) begun fed .answer) ≡ done k
-      → wrappedWriterOutcome (started begun fed head w out)
+  start-done : (k : Work) → wrappedReply (unlessBegun (begun .answer) begun taken .answer) ≡ done k
+      → wrappedWriterOutcome (started begun taken head w out)
       ≡ record {
-        next = record { machine = wrappedMachine (unlessBegun (begun .answer) begun fed .next); phase = Open; tickets = w .tickets };
+        next = record { machine = wrappedMachine (unlessBegun (begun .answer) begun taken .next); phase = Open; tickets = w .tickets };
         answer = done (record { bytes = headLength; steps = k .steps });
         out = writtenOver (packHead head) out;
       }
@@ -227,18 +196,18 @@ module _ (w : PlainWriter) (head : Head) (out : List ℕ) (begun fed : Outcome M
       stepsOf (refused n) = 0
       stepsOf (done x) = x .steps
 
-      by : (a : Reply Work) → begun .answer ≡ a → wrappedReply (unlessBegun a begun fed .answer) ≡ done k
-          → wrappedWriterOutcome (onAnswer a (λ x. onAnswer (fed .answer) goOn w out) w out)
+      by : (a : Reply Work) → begun .answer ≡ a → wrappedReply (unlessBegun a begun taken .answer) ≡ done k
+          → wrappedWriterOutcome (onAnswer a (λ x. onAnswer (taken .answer) goOn w out) w out)
           ≡ record {
-            next = record { machine = wrappedMachine (unlessBegun a begun fed .next); phase = Open; tickets = w .tickets };
+            next = record { machine = wrappedMachine (unlessBegun a begun taken .next); phase = Open; tickets = w .tickets };
             answer = done (record { bytes = headLength; steps = k .steps });
             out = writtenOver (packHead head) out;
           }
       by (refused n) d f = absurd (let z : _≡_ {A = ℕ} 0 1 = let g = ap wrappedReply (sym d) ∙ f in cc in omega arith)
       by (done j) d f =
-          answer-done (fed .answer) goOn w out k f _
+          answer-done (taken .answer) goOn w out k f _
           (λ x g i. record {
-            next = record { machine = wrappedMachine (fed .next); phase = Open; tickets = w .tickets };
+            next = record { machine = wrappedMachine (taken .next); phase = Open; tickets = w .tickets };
             answer = done (record { bytes = headLength; steps = stepsOf (g i) });
             out = writtenOver (packHead head) out;
           })

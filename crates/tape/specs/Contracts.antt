@@ -22,7 +22,7 @@ writerOf w = record { machine = machineOf (w .session); phase = w .phase; ticket
 unfoldable pub outcomeOf : WriterReply → List ℕ → Outcome PlainWriter Work
 outcomeOf r out = record { next = writerOf (r .writer); answer = answerReply (r .answer); out = out }
 
--- ## Counting in 64 bits: the session's count of steps goes round at 2 ^ 64
+-- ## Counting in 64 bits: the session's count of steps wraps around at 2 ^ 64
 
 unfoldable pub wrappedWriter : PlainWriter → PlainWriter
 wrappedWriter w = record { machine = wrappedMachine (w .machine); phase = w .phase; tickets = w .tickets }
@@ -44,14 +44,14 @@ refusedReply number w = record { answer = Refused number; writer = w }
 
 -- r is the refusal number of each call whose six tests come out so
 abbrev pub IsRefusal : Bool → Bool → Bool → Bool → Bool → Bool → ℕ → Type 0
-IsRefusal allowed keyed headed ticketed full short r =
-    (w : PlainWriter) (c : WriterCall) → phaseAllows (w .phase) c ≡ allowed → keyRight c ≡ keyed → headRight c ≡ headed → ticketRight c ≡ ticketed
+IsRefusal allowed key head ticket full short r =
+    (w : PlainWriter) (c : WriterCall) → phaseAllows (w .phase) c ≡ allowed → keyRight c ≡ key → headRight c ≡ head → ticketRight c ≡ ticket
     → tapeFull (w .tickets) c ≡ full → outputShort c ≡ short → r ≡ refusal w c
 
 -- begin and then data with a head's bytes; begin alone where it is refused
 abbrev pub unlessBegun : Reply Work → Outcome Machine Work → Outcome Machine Work → Outcome Machine Work
-unlessBegun (refused n) begun fed = begun
-unlessBegun (done work) begun fed = fed
+unlessBegun (refused n) begun taken = begun
+unlessBegun (done work) begun taken = taken
 
 unfoldable pub headTaken : Machine → List ℕ → List ℕ → Outcome Machine Work
 headTaken m key head =

@@ -1,5 +1,6 @@
-// Tapes: a writer seals a shift's tickets behind a head, and `open_tape` opens them. Every call of the writer takes it and hands back the writer after it, with an answer:
-// a refusal number, or the bytes that the call wrote and the steps run since the writer was fresh. A refused call changes nothing.
+// Tapes: a writer seals a shift's tickets behind a head, and `open_tape` opens them. Every call of the writer takes it and hands back the writer
+// after it, with an answer: a refusal number, or the bytes that the call wrote and the steps run since the writer was fresh. A refused call
+// changes nothing.
 mod opening;
 mod refusal;
 mod words;
@@ -8,9 +9,6 @@ use acorn_model::Answer;
 use acorn_model::Kind;
 use opening::open_by;
 use opening::open_refusal;
-use opening::zeros_512;
-use opening::zeros_8192;
-use opening::zeros_65536;
 use refusal::is_fresh;
 use refusal::is_open;
 use refusal::number;
@@ -102,10 +100,10 @@ impl Writer {
         ensures { λ r. ⌜ WriterCalled self (plain.start (now (key .entry)) head (now (out .entry))) r (now (out .exit)) ⌝ }
     {
         let phase = self.phase;
-        let headed = ticket::head_valid(head);
-        let keyed = key.len() == 16;
+        let head_right = ticket::head_valid(head);
+        let key_right = key.len() == 16;
         let short = out.len() < 9;
-        let number = number(is_fresh(phase), keyed, headed, true, false, short);
+        let number = number(is_fresh(phase), key_right, head_right, true, false, short);
         if number != 0 {
             return self.refused(number);
         }
@@ -205,7 +203,7 @@ impl Writer {
 }
 
 // Opens a tape: writes the plain bytes of its tickets, once the tag is known to match and every ticket has unpacked, and answers their
-// number and total net. The scratch is no longer than the tape makes needful, since it is cleared first.
+// number and total net. The scratch is cleared first, so a short tape gets a short one.
 pub fn open_tape(key: &[u8], tape: &[u8], out: &mut [u8]) -> OpenedTape
     ensures { λ r. ⌜ openTape (now (key .entry)) (now (tape .entry)) (now (out .entry)) ≡ record { answer = openedReply r; out = now (out .exit) } ⌝ }
 {
@@ -214,13 +212,13 @@ pub fn open_tape(key: &[u8], tape: &[u8], out: &mut [u8]) -> OpenedTape
         return OpenedTape::Refused(number);
     }
     if tape.len() <= 512 + 25 {
-        let mut scratch = zeros_512();
+        let mut scratch = [0; 512];
         return open_by(&mut scratch, key, tape, out);
     }
     if tape.len() <= 8192 + 25 {
-        let mut scratch = zeros_8192();
+        let mut scratch = [0; 8192];
         return open_by(&mut scratch, key, tape, out);
     }
-    let mut scratch = zeros_65536();
+    let mut scratch = [0; 65536];
     open_by(&mut scratch, key, tape, out)
 }

@@ -11,6 +11,7 @@ use acorn::tag;
 use compare::same_bytes;
 use tape_model::OpenedTape;
 use tape_model::UnpackedHead;
+use ticket::tickets_length;
 ghost use mathlib.Core.Path.{_≡_};
 ghost use Prim.Native.Nat.{_+_, _-_, _≤_};
 ghost use lib.ListN.{length, take};
@@ -30,8 +31,7 @@ fn tape_length(n: usize) -> bool
     if n < 25 {
         return false;
     }
-    let text = n - 25;
-    (text % 13 == 0) & (text / 13 <= 5000)
+    tickets_length(n - 25)
 }
 
 // Whether a field of a head is outside its range.
@@ -98,16 +98,4 @@ pub(crate) fn open_by(scratch: &mut [u8], key: &[u8], tape: &[u8], out: &mut [u8
     };
     bytes::copy(&scratch[..n], out);
     OpenedTape::Done(n / 13, net)
-}
-
-pub(crate) fn zeros_512() -> [u8; 512] {
-    [0; 512]
-}
-
-pub(crate) fn zeros_8192() -> [u8; 8192] {
-    [0; 8192]
-}
-
-pub(crate) fn zeros_65536() -> [u8; 65536] {
-    [0; 65536]
 }

@@ -27,24 +27,24 @@ pub(crate) fn is_open(phase: WriterPhase) -> bool
 // The smallest number that applies, by the six tests; 0 where none does.
 pub(crate) fn number(
     allowed: bool,
-    keyed: bool,
-    headed: bool,
-    ticketed: bool,
+    key_right: bool,
+    head_right: bool,
+    ticket_right: bool,
     full: bool,
     short: bool,
 ) -> u8
-    ensures { λ r. ⌜ IsRefusal allowed keyed headed ticketed full short r ⌝ }
+    ensures { λ r. ⌜ IsRefusal allowed «key_right» «head_right» «ticket_right» full short r ⌝ }
 {
     if !allowed {
         return 1;
     }
-    if !keyed {
+    if !key_right {
         return 2;
     }
-    if !headed {
+    if !head_right {
         return 3;
     }
-    if !ticketed {
+    if !ticket_right {
         return 4;
     }
     if full {

@@ -1,6 +1,6 @@
 -- The twelve cases of document 01 hold: each computes.
 use mathlib.Core.Path.{_≡_, refl}
-use mathlib.Core.Bool.{Bool, true}
+use mathlib.Core.Bool.{true}
 use mathlib.Core.List.{List, [], _∷_}
 use Rattle.acorn_model.specs.Step.{_⊕=_and_, lfsrUpdate, maj, ch, ksg128, fbk128, keystreamBit, feedbackBit, step}
 use Rattle.acorn_model.proofs.StepCases.{stepHolds, shown-step}

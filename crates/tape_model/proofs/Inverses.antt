@@ -21,11 +21,11 @@ injective {A} {rule} {packed} {unpacked} i a b ra rb e =
     let p : done a ≡ done b = sym (i .unpack-pack a ra) ∙ ap unpacked e ∙ i .unpack-pack b rb in cc
 
 -- what is unpacked passed both tests
-passed : {A : Type 0} (n : ℕ) (b c : Bool) (x y : A) → (refused 2 if not b else refused n if not c else done x) ≡ done y
+pub unpack-passed : {A : Type 0} (n : ℕ) (b c : Bool) (x y : A) → (refused 2 if not b else refused n if not c else done x) ≡ done y
     → (b ≡ true) × (c ≡ true) × (x ≡ y)
-passed n true true x y e = (refl, refl, cc)
-passed n true false x y e = let z : _≡_ {A = ℕ} 0 1 = cc in absurd (omega arith)
-passed n false c x y e = let z : _≡_ {A = ℕ} 0 1 = cc in absurd (omega arith)
+unpack-passed n true true x y e = (refl, refl, cc)
+unpack-passed n true false x y e = let z : _≡_ {A = ℕ} 0 1 = cc in absurd (omega arith)
+unpack-passed n false c x y e = let z : _≡_ {A = ℕ} 0 1 = cc in absurd (omega arith)
 
 -- A thing lies in `size` packed bytes as its values, one for each field, which meet the test; a failed test is answered by its number.
 module _ {A : Type 0} (fields : List Field) (size number : ℕ) (test : List ℕ → Bool) (valuesOf : A → List ℕ) (ofValues : List ℕ → A) where
@@ -56,7 +56,7 @@ module _ {A : Type 0} (fields : List Field) (size number : ℕ) (test : List ℕ
     pack-unpack : (s : List ℕ) (a : A) → AreBytes s → answer (length s) (unpack ws s) ≡ done a → (test (valuesOf a) ≡ true) × (pack ws size (valuesOf a) ≡ s)
     pack-unpack s a f e =
         let vs = unpack ws s in
-        let p = passed number (eqb (length s) size) (test vs) (ofValues vs) a e in
+        let p = unpack-passed number (eqb (length s) size) (test vs) (ofValues vs) a e in
         let n : length s ≡ size = eqb-true (length s) size (p .0) in
         let v : valuesOf a ≡ vs = ap valuesOf (sym (p .2)) ∙ l .forth _ (p .1) in (
           ap test v ∙ p .1,

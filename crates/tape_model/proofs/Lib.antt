@@ -9,3 +9,4 @@ pub mod RefusalExamples
 pub mod Unpacking
 pub mod Opening
 pub mod Listing
+pub mod Refusals

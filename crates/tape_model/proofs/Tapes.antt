@@ -1,15 +1,15 @@
 -- A tape's tickets come back: from its opened bytes, by opening, by a reader, and in the listing.
-use mathlib.Core.Path.{_≡_, refl, sym, ap, ap₂, _∙_, subst}
+use mathlib.Core.Path.{_≡_, refl, sym, ap, ap₂, _∙_}
 use mathlib.Core.Bool.{Bool, true, false, not, _&&_}
 use mathlib.Core.List.{List, [], _∷_, _++_, append-nil, append-assoc}
-use Prim.Native.Nat.{ℕ, zero, suc, _+_, _-_, _*_, _/_, _%_, _≤_, _<_}
+use Prim.Native.Nat.{ℕ, zero, suc, _+_, _-_, _*_, _/_, _%_, _≤_}
 use native.Mathlib.Omega.{arith}
-use lib.Dec.{leb, ltb, eqb}
-use lib.ListN.{length, getD, take, drop, replicate, length-append, length-replicate}
+use lib.Dec.{ltb, eqb}
+use lib.ListN.{length, take, drop, replicate, length-append, length-replicate}
 use lib.Seq.{take-at, drop-at, drop-drop}
 use borrow.Author.Tests.{le-leb, lt-leb, le-ltb, eq-eqb}
 use Rattle.acorn_model.specs.Bits.{_if_else_, AreBytes}
-use Rattle.acorn_model.specs.Calls.{Reply, refused, done, accepted, unlessRefused, writtenOver}
+use Rattle.acorn_model.specs.Calls.{Reply, done, accepted, unlessRefused, writtenOver}
 use Rattle.acorn_model.specs.Machine.{keyLength, nonceLength}
 use Rattle.acorn_model.specs.Message.{resultOf, sealed, tagMatches, opened}
 use Rattle.acorn_model.proofs.Bytes.{append-are-bytes}
@@ -19,10 +19,10 @@ use Rattle.tape_model.specs.declared.Ticket.{Ticket}
 use Rattle.tape_model.specs.declared.Head.{Head}
 use Rattle.tape_model.specs.Ticket.{ticketLength, ticketRule, packTicket, unpackTicket, headLength, headRule, packHead, unpackHead}
 use Rattle.tape_model.specs.Tape.{ticketLimit, nonceOf, packTickets, tapeOf, ticketsLength, ticketThen, unpackTickets, isRefused, ticketsIn, totalNet, emptyTapeLength, tapeLength, headBytes, sealedBytes, ticketCount, plainBytes, openRefusal, openTape}
-use Rattle.tape_model.specs.Reader.{Reading, ticket, atEnd, Reader, readerOver, readNext, stays, handedOut}
+use Rattle.tape_model.specs.Reader.{ticket, atEnd, Reader, readerOver, readNext, stays, handedOut}
 use Rattle.tape_model.specs.Listing.{headLine, ticketLines, totalLine, listed, listingUnless, listing, printed}
 use Rattle.tape_model.specs.Laws.{Valid, readings, readerAfter, asReadings, TapeLaws, TapesComeBack}
-use Rattle.tape_model.proofs.Tickets.{ticket-inverse, head-inverse, ticket-length, ticket-bytes, head-length, head-bytes}
+use Rattle.tape_model.proofs.Tickets.{ticket-inverse, head-inverse, ticket-length, ticket-bytes, head-length}
 
 -- ## Plain bytes
 

@@ -1,8 +1,8 @@
 -- Tickets and heads: packing and unpacking undo each other, what is packed is so many bytes, and what the rules say as facts on numbers.
 use Prim.Native.Nat.{ℕ, _≤_, _<_}
-use mathlib.Core.Path.{_≡_, refl, sym, ap}
-use mathlib.Core.Bool.{Bool, true, _&&_}
-use mathlib.Core.List.{List, [], _∷_}
+use mathlib.Core.Path.{_≡_, refl}
+use mathlib.Core.Bool.{true}
+use mathlib.Core.List.{List}
 use native.Mathlib.Omega.{arith}
 use lib.Dec.{leb, ltb}
 use lib.ListN.{length, getD}
@@ -83,10 +83,6 @@ ticket-bytes t = pack-bytes (widths form1) ticketLength (ticketValues t)
 pub head-length : (h : Head) → length (packHead h) ≡ headLength
 unfolding packHead
 head-length h = refl
-
-pub head-bytes : (h : Head) → AreBytes (packHead h)
-unfolding packHead
-head-bytes h = pack-bytes (widths headFormat) headLength (headValues h)
 
 -- ## All of it
 

@@ -5,13 +5,13 @@ use mathlib.Core.List.{List, [], _∷_, _++_}
 use Prim.Native.Nat.{ℕ, zero, suc, _+_, _-_, _*_, _^_, _≤_, _<_}
 use lib.ListN.{length, getD, replicate}
 use Rattle.acorn_model.specs.Bits.{AreBytes}
-use Rattle.acorn_model.specs.Calls.{Reply, refused, done, accepted, writtenOver}
+use Rattle.acorn_model.specs.Calls.{Reply, done, writtenOver}
 use Rattle.acorn_model.specs.Machine.{keyLength}
 use Rattle.tape_model.specs.declared.Ticket.{Ticket}
 use Rattle.tape_model.specs.declared.Head.{Head}
 use Rattle.tape_model.specs.Format.{totalWidth, widths, join, cut, Fit, byteWidths, pack, bitString}
-use Rattle.tape_model.specs.Ticket.{form1, ticketLength, ticketValues, ticketRule, packTicket, unpackTicket, headFormat, headLength, headValues, headRule, packHead, unpackHead}
-use Rattle.tape_model.specs.Tape.{ticketLimit, packTickets, tapeOf, emptyTapeLength, totalNet, openRefusal, openTape}
+use Rattle.tape_model.specs.Ticket.{form1, ticketValues, ticketRule, packTicket, unpackTicket, headFormat, headValues, headRule, packHead, unpackHead}
+use Rattle.tape_model.specs.Tape.{ticketLimit, packTickets, tapeOf, totalNet, openRefusal, openTape}
 use Rattle.tape_model.specs.Reader.{Reading, ticket, atEnd, Reader, readerOver, readNext}
 use Rattle.tape_model.specs.Listing.{decimal, headLine, ticketLines, totalLine, refusedLine, listed, listing, printed, exampleText}
 use Rattle.tape_model.specs.Cases.{ticketWith}

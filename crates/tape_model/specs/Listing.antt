@@ -1,5 +1,4 @@
 -- Document 01, "Ticket, head, tape", on the listing: the text that the listing program prints for a key and a tape, as ASCII bytes.
-use mathlib.Core.Bool.{Bool}
 use mathlib.Core.List.{List, [], _∷_, _++_}
 use Prim.Native.Nat.{ℕ, zero, suc, _+_, _/_, _%_}
 use lib.Dec.{ltb}
@@ -49,19 +48,24 @@ numbers (n ∷ ns) = space ++ decimal n ++ numbers ns
 unfoldable pub headLine : Head → List ℕ
 headLine h = wordTape ++ numbers (h .device ∷ h .shift ∷ h .sheet ∷ []) ++ lineEnd
 
--- position, counted from 1, truck, shovel, tip point, grade, loaded, tipped, net
+-- truck, shovel, tip point, grade, loaded, tipped, net
+abbrev pub ticketNumbers : Ticket → List ℕ
+ticketNumbers t = t .truck ∷ t .shovel ∷ t .tip ∷ t .grade ∷ t .loaded ∷ t .tipped ∷ net t ∷ []
+
+-- the position, counted from 1, and the ticket's numbers
 unfoldable pub ticketLine : ℕ → Ticket → List ℕ
-ticketLine position t =
-    decimal position
-    ++ numbers (t .truck ∷ t .shovel ∷ t .tip ∷ t .grade ∷ t .loaded ∷ t .tipped ∷ net t ∷ [])
-    ++ lineEnd
+ticketLine position t = decimal position ++ numbers (ticketNumbers t) ++ lineEnd
 
 unfoldable pub ticketLines : ℕ → List Ticket → List ℕ
 ticketLines position [] = []
 ticketLines position (t ∷ ts) = ticketLine position t ++ ticketLines (position + 1) ts
 
+-- by the number of tickets and their total net
+abbrev pub totalsLine : ℕ → ℕ → List ℕ
+totalsLine tickets net = wordTotal ++ numbers (tickets ∷ net ∷ []) ++ lineEnd
+
 unfoldable pub totalLine : List Ticket → List ℕ
-totalLine ts = wordTotal ++ numbers (length ts ∷ totalNet ts ∷ []) ++ lineEnd
+totalLine ts = totalsLine (length ts) (totalNet ts)
 
 unfoldable pub refusedLine : ℕ → List ℕ
 refusedLine n = wordRefused ++ numbers (n ∷ []) ++ lineEnd

@@ -1,5 +1,5 @@
 -- Document 01, "Ticket, head, tape", on the reader: it hands out the tickets of opened bytes in turn.
-use mathlib.Core.Bool.{Bool, not}
+use mathlib.Core.Bool.{not}
 use mathlib.Core.List.{List}
 use Prim.Native.Nat.{ℕ, _+_, _*_, _/_}
 use lib.Dec.{leb}

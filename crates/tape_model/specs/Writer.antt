@@ -113,11 +113,11 @@ passedOn o phase tickets w out =
 
 -- start: begin, then data with the head; the head is written
 unfoldable pub started : Outcome Machine Work → Outcome Machine Work → Head → PlainWriter → List ℕ → Outcome PlainWriter Work
-started begun fed head w out =
+started begun taken head w out =
     onAnswer (begun .answer)
-    (λ beginWork. onAnswer (fed .answer)
+    (λ beginWork. onAnswer (taken .answer)
     (λ dataWork. record {
-      next = record { machine = fed .next; phase = Open; tickets = w .tickets };
+      next = record { machine = taken .next; phase = Open; tickets = w .tickets };
       answer = done (record { bytes = headLength; steps = dataWork .steps });
       out = writtenOver (packHead head) out;
     }) w out) w out

@@ -6,9 +6,11 @@ use mathlib.Core.List.{List}
 use native.Mathlib.Omega.{arith}
 use lib.ListN.{length, take, drop, length-drop}
 use lib.Seq.{drop-drop, length-take-le}
-use borrow.Author.Tests.{eq-eqb, le-leb}
+use lib.Dec.{eqb, leb}
+use borrow.Author.Tests.{eq-eqb, leb-true, not-false}
 use Rattle.acorn_model.specs.Bits.{_if_else_}
 use Rattle.acorn_model.specs.Calls.{Reply, refused, done}
+use Rattle.acorn_model.proofs.Choices.{both}
 use Rattle.tape_model.specs.declared.Ticket.{Ticket}
 use Rattle.tape_model.specs.Format.{widths, unpack}
 use Rattle.tape_model.specs.Ticket.{form1, ticketOf, valuesRule, net, unpackTicket}
@@ -81,6 +83,12 @@ module _ (s : List ℕ) (n k sum : ℕ) where
 
 -- ## The answer
 
-pub length-allowed : (s : List ℕ) (r : Reply Totals) → length s % 13 ≡ 0 → length s / 13 ≤ 5000 → r ≡ totalsOf (unpackTickets (length s / 13) s) → r ≡ plainTotals s
-unfolding plainTotals ticketsLength
-length-allowed s r e h f = rw (eq-eqb (length s % 13) 0 e, le-leb (length s / 13) 5000 h) f
+-- r: whether the bytes are of a right size
+module _ (s : List ℕ) (r : Bool) (sized : r ≡ ticketsLength (length s)) (right : not r ≡ false) where
+  pub few-tickets : length s / 13 ≤ 5000
+  unfolding ticketsLength
+  few-tickets = leb-true (length s / 13) 5000 (both (eqb (length s % 13) 0) (leb (length s / 13) 5000) (sym sized ∙ not-false r right) .1)
+
+  pub length-allowed : (a : Reply Totals) → a ≡ totalsOf (unpackTickets (length s / 13) s) → a ≡ plainTotals s
+  unfolding plainTotals
+  length-allowed a f = rw (sym sized, right) f

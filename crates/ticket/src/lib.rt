@@ -8,7 +8,7 @@ ghost use Prim.Native.Nat.{ℕ, _+_, _*_, _/_, _%_, _^_, _<_};
 ghost use Rattle.acorn_model.specs.Calls.{writtenReply};
 ghost use Rattle.tape_model.specs.Format.{join, cut, byteWidths, widths};
 ghost use Rattle.tape_model.specs.Ticket as model;
-ghost use Rattle.tape_model.specs.Tape.{plainTotals, openedReply};
+ghost use Rattle.tape_model.specs.Tape.{ticketsLength, plainTotals, openedReply};
 ghost use Rattle.ticket.specs.Packing.{putInto, packedOrZeros};
 use acorn_model::Written;
 use tape_model::Head;
@@ -225,18 +225,22 @@ pub fn unpack_head(packed: &[u8]) -> UnpackedHead
     }
 }
 
+// Whether so many bytes are 13 for each of at most 5,000 tickets.
+pub fn tickets_length(n: usize) -> bool
+    ensures { λ r. ⌜ r ≡ ticketsLength n ⌝ }
+{
+    (n % 13 == 0) & (n / 13 <= 5000)
+}
+
 // The totals of plain bytes: 2 where they are not 13 for each of at most 5,000 tickets, 8 where one does not unpack.
 pub fn totals(plain: &[u8]) -> OpenedTape
     ensures { λ r. ⌜ openedReply r ≡ plainTotals (now (plain .entry)) ⌝ }
 {
     let size = plain.len();
+    if !tickets_length(size) {
+        return OpenedTape::Refused(2);
+    }
     let tickets = size / 13;
-    if size % 13 != 0 {
-        return OpenedTape::Refused(2);
-    }
-    if 5000 < tickets {
-        return OpenedTape::Refused(2);
-    }
     let mut i: usize = 0;
     let mut sum: u64 = 0;
     while i < tickets {

@@ -3,8 +3,8 @@ use mathlib.Core.List.{_++_}
 use Prim.Native.Nat.{_/_}
 use lib.ListN.{length}
 use borrow.Author.Needs.{needs}
-use Rattle.tape_model.specs.Listing.{headLine}
-use Rattle.listing.specs.Contracts.{linesOf, totalsLine}
+use Rattle.tape_model.specs.Listing.{headLine, totalsLine}
+use Rattle.listing.specs.Contracts.{linesOf}
 use Rattle.listing.proofs.Texts.{wrote-as, behind-start, behind-room, behind-wrote, behind-within}
 use Rattle.listing.proofs.Whole.{whole, whole-room, lines-room, head-room}
 use Rattle.listing.proofs.put_listed.Statement.{statement}

@@ -21,16 +21,13 @@ returns c =
 add-if2 : tie.Need-add-if2
 add-if2 c = search needs
 
-zeros-512-requires : tie.Need-zeros-512-requires
-zeros-512-requires c κs = search needs
-
 slice-aggregate-open-by : tie.Need-slice-aggregate-open-by
 slice-aggregate-open-by c = search needs
 
 open-by-requires : tie.Need-open-by-requires
 open-by-requires c κs =
-    let a = c .before .before .before .before .before .before .before .before .before .before .before .before .args in
-    let only-tag = let-through (a .key .now) (a .nonce .now) (a .«data» .now) (a .sealed .now) (a .out .now) _ (c .before .before .before .before .before .open-refusal .ensures) (c .before .before .before .before .if1 .left) in
+    let a = c .before .before .before .before .before .before .before .before .before .before .before .args in
+    let only-tag = let-through (a .key .now) (a .nonce .now) (a .«data» .now) (a .sealed .now) (a .out .now) _ (c .before .before .before .before .open-refusal .ensures) (c .before .before .before .if1 .left) in
     (search needs, only-tag)
 
 same-length-2 : tie.Need-same-length-2
@@ -42,16 +39,13 @@ returns-2 c = search needs
 add-if3 : tie.Need-add-if3
 add-if3 c = search needs
 
-zeros-8192-requires : tie.Need-zeros-8192-requires
-zeros-8192-requires c κs = search needs
-
 slice-aggregate-open-by-2 : tie.Need-slice-aggregate-open-by-2
 slice-aggregate-open-by-2 c = search needs
 
 open-by-requires-2 : tie.Need-open-by-requires-2
 open-by-requires-2 c κs =
-    let a = c .before .before .before .before .before .before .before .before .before .before .before .before .before .args in
-    let only-tag = let-through (a .key .now) (a .nonce .now) (a .«data» .now) (a .sealed .now) (a .out .now) _ (c .before .before .before .before .before .before .open-refusal .ensures) (c .before .before .before .before .before .if1 .left) in
+    let a = c .before .before .before .before .before .before .before .before .before .before .before .before .args in
+    let only-tag = let-through (a .key .now) (a .nonce .now) (a .«data» .now) (a .sealed .now) (a .out .now) _ (c .before .before .before .before .before .open-refusal .ensures) (c .before .before .before .before .if1 .left) in
     (search needs, only-tag)
 
 same-length-3 : tie.Need-same-length-3
@@ -60,16 +54,13 @@ same-length-3 c = search needs
 returns-3 : tie.Need-returns-3
 returns-3 c = search needs
 
-zeros-65536-requires : tie.Need-zeros-65536-requires
-zeros-65536-requires c κs = search needs
-
 slice-aggregate-open-by-3 : tie.Need-slice-aggregate-open-by-3
 slice-aggregate-open-by-3 c = search needs
 
 open-by-requires-3 : tie.Need-open-by-requires-3
 open-by-requires-3 c κs =
-    let a = c .before .before .before .before .before .before .before .before .before .before .before .before .before .args in
-    let only-tag = let-through (a .key .now) (a .nonce .now) (a .«data» .now) (a .sealed .now) (a .out .now) _ (c .before .before .before .before .before .before .open-refusal .ensures) (c .before .before .before .before .before .if1 .left) in
+    let a = c .before .before .before .before .before .before .before .before .before .before .before .before .args in
+    let only-tag = let-through (a .key .now) (a .nonce .now) (a .«data» .now) (a .sealed .now) (a .out .now) _ (c .before .before .before .before .before .open-refusal .ensures) (c .before .before .before .before .if1 .left) in
     let o = openable (a .key .now) (a .nonce .now) (a .«data» .now) (a .sealed .now) (a .out .now) only-tag in
     (omega (arith, o .text-limit), only-tag)
 
@@ -87,18 +78,15 @@ open-spec =
     same-length
     returns
     add-if2
-    zeros-512-requires
     slice-aggregate-open-by
     open-by-requires
     same-length-2
     returns-2
     add-if3
-    zeros-8192-requires
     slice-aggregate-open-by-2
     open-by-requires-2
     same-length-3
     returns-3
-    zeros-65536-requires
     slice-aggregate-open-by-3
     open-by-requires-3
     same-length-4

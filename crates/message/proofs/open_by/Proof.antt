@@ -2,7 +2,7 @@
 use mathlib.Core.Path.{refl, sym}
 use Prim.Native.Nat.{_-_}
 use native.Mathlib.Omega.{arith}
-use lib.ListN.{length, length-take, length-drop}
+use lib.ListN.{length, length-take}
 use lib.Seq.{length-take-le}
 use Rattle.acorn_model.specs.Calls.{writtenReply}
 use Rattle.message.proofs.Opening.{openable, opened-by-parts, refused-by-tag}

@@ -1,7 +1,7 @@
 -- `begin_with_head` begins, and then takes the head as data.
 use borrow.Author.Needs.{needs}
 use Rattle.acorn_model.specs.Machine.{begin}
-use Rattle.tape.proofs.WriterCalls.{not-begun, then-fed}
+use Rattle.tape.proofs.WriterCalls.{not-begun, then-taken}
 use Rattle.tape.proofs.begin_with_head.Statement.{statement}
 use Rattle.tape.proofs.begin_with_head.Tie as tie
 
@@ -34,7 +34,7 @@ returns-2 : tie.Need-returns-2
 returns-2 c =
     let b = c .before .before .before .before in
     let a = b .before .before .before .before .before .args in
-    then-fed (a .session) (a .key .now) (a .head .now) (b .begin .result)
+    then-taken (a .session) (a .key .now) (a .head .now) (b .begin .result)
     (rw (b .before .before .nonce-of .ensures) at (b .begin .ensures)) _ _ (c .before .before .enum-told .given .1) _ (c .«data» .ensures)
 
 pub begin-with-head-spec : {M : Type 1} → statement M

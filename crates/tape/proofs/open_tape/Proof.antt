@@ -24,17 +24,14 @@ returns c =
 add-if2 : tie.Need-add-if2
 add-if2 c = search needs
 
-zeros-512-requires : tie.Need-zeros-512-requires
-zeros-512-requires c κs = search needs
-
 slice-aggregate-open-by : tie.Need-slice-aggregate-open-by
 slice-aggregate-open-by c = search needs
 
 open-by-requires : tie.Need-open-by-requires
 open-by-requires c κs =
-    let n = c .before .before .before .before .before in
+    let n = c .before .before .before .before in
     let a = n .before .before .before .before .before .args in
-    let only-text = let-through (a .key .now) (a .tape .now) (a .out .now) (n .open-refusal .result) (n .open-refusal .ensures) (c .before .before .before .before .if1 .left) in
+    let only-text = let-through (a .key .now) (a .tape .now) (a .out .now) (n .open-refusal .result) (n .open-refusal .ensures) (c .before .before .before .if1 .left) in
     (search needs, only-text)
 
 same-length-2 : tie.Need-same-length-2
@@ -46,17 +43,14 @@ returns-2 c = search needs
 add-if3 : tie.Need-add-if3
 add-if3 c = search needs
 
-zeros-8192-requires : tie.Need-zeros-8192-requires
-zeros-8192-requires c κs = search needs
-
 slice-aggregate-open-by-2 : tie.Need-slice-aggregate-open-by-2
 slice-aggregate-open-by-2 c = search needs
 
 open-by-requires-2 : tie.Need-open-by-requires-2
 open-by-requires-2 c κs =
-    let n = c .before .before .before .before .before .before in
+    let n = c .before .before .before .before .before in
     let a = n .before .before .before .before .before .args in
-    let only-text = let-through (a .key .now) (a .tape .now) (a .out .now) (n .open-refusal .result) (n .open-refusal .ensures) (c .before .before .before .before .before .if1 .left) in
+    let only-text = let-through (a .key .now) (a .tape .now) (a .out .now) (n .open-refusal .result) (n .open-refusal .ensures) (c .before .before .before .before .if1 .left) in
     (search needs, only-text)
 
 same-length-3 : tie.Need-same-length-3
@@ -65,17 +59,14 @@ same-length-3 c = search needs
 returns-3 : tie.Need-returns-3
 returns-3 c = search needs
 
-zeros-65536-requires : tie.Need-zeros-65536-requires
-zeros-65536-requires c κs = search needs
-
 slice-aggregate-open-by-3 : tie.Need-slice-aggregate-open-by-3
 slice-aggregate-open-by-3 c = search needs
 
 open-by-requires-3 : tie.Need-open-by-requires-3
 open-by-requires-3 c κs =
-    let n = c .before .before .before .before .before .before in
+    let n = c .before .before .before .before .before in
     let a = n .before .before .before .before .before .args in
-    let only-text = let-through (a .key .now) (a .tape .now) (a .out .now) (n .open-refusal .result) (n .open-refusal .ensures) (c .before .before .before .before .before .if1 .left) in
+    let only-text = let-through (a .key .now) (a .tape .now) (a .out .now) (n .open-refusal .result) (n .open-refusal .ensures) (c .before .before .before .before .if1 .left) in
     let size = openable (a .key .now) (a .tape .now) (a .out .now) only-text .tape-size in
     (omega (arith, size .few, text-length (length (a .tape .now)) size), only-text)
 
@@ -93,18 +84,15 @@ open-tape-spec =
     same-length
     returns
     add-if2
-    zeros-512-requires
     slice-aggregate-open-by
     open-by-requires
     same-length-2
     returns-2
     add-if3
-    zeros-8192-requires
     slice-aggregate-open-by-2
     open-by-requires-2
     same-length-3
     returns-3
-    zeros-65536-requires
     slice-aggregate-open-by-3
     open-by-requires-3
     same-length-4

@@ -3,31 +3,31 @@ use Prim.Native.Nat.{_+_, _-_, _*_, _^_, _≤_}
 use mathlib.Core.Path.{_≡_, sym, ap, _∙_}
 use native.Mathlib.Omega.{arith}
 use borrow.Author.Needs.{needs}
-use borrow.Author.Tests.{ne-eqb, eq-eqb, lt-leb}
 use Rattle.tape_model.specs.Ticket.{ticketReply}
-use Rattle.tape_model.specs.Tape.{ticketsLength, unpackTickets, totalsOf, plainTotals, openedReply}
-use Rattle.ticket.proofs.Summing.{totalsAfter, left, all-left, none-left, one-done, one-refused, length-allowed}
+use Rattle.tape_model.specs.Tape.{unpackTickets, totalsOf, plainTotals, openedReply}
+use Rattle.ticket.proofs.Summing.{totalsAfter, left, all-left, none-left, one-done, one-refused, few-tickets, length-allowed}
 use Rattle.ticket.proofs.totals.Statement.{statement}
 use Rattle.ticket.proofs.totals.Tie as tie
 
 abbrev Inv-loop : tie.InvT-loop
 Inv-loop plain size tickets i₀ sum₀ i sum =
-    (i ≤ tickets) × (sum ≤ 2 ^ 32 * i)
+    (i ≤ tickets) × (tickets ≤ 5000) × (sum ≤ 2 ^ 32 * i)
     × (totalsAfter i sum (left plain tickets i) ≡ totalsOf (unpackTickets tickets plain))
 
 abbrev μ-loop : tie.MeasureT-loop
 μ-loop plain size tickets i₀ sum₀ i sum = tickets - i
 
-returns : tie.Need-returns Inv-loop μ-loop
-unfolding openedReply plainTotals ticketsLength
-returns c = rw (ne-eqb _ _ (c .if1 .taken))
+tickets-length-requires : tie.Need-tickets-length-requires Inv-loop μ-loop
+tickets-length-requires c κs = search needs
 
-returns-2 : tie.Need-returns-2 Inv-loop μ-loop
-unfolding openedReply plainTotals ticketsLength
-returns-2 c = rw (eq-eqb _ _ (c .before .if1 .left), lt-leb _ _ (c .if2 .taken))
+returns : tie.Need-returns Inv-loop μ-loop
+unfolding openedReply plainTotals
+returns c = rw (sym (c .before .tickets-length .ensures), c .if1 .taken)
 
 loop-holds : tie.Need-loop-holds Inv-loop μ-loop
-loop-holds c = (omega arith, omega arith, all-left _ _)
+loop-holds c =
+    let s = c .before .before .before .args .plain .now in
+    (omega arith, few-tickets s _ (c .before .tickets-length .ensures) (c .if1 .left), omega arith, all-left _ _)
 
 mul-at : tie.Need-mul-at Inv-loop μ-loop
 mul-at c = search needs
@@ -53,15 +53,16 @@ enum-known-t c = search needs
 enum-told : tie.Need-enum-told Inv-loop μ-loop
 enum-told c = search needs
 
-returns-3 : tie.Need-returns-3 Inv-loop μ-loop
+returns-2 : tie.Need-returns-2 Inv-loop μ-loop
 unfolding openedReply ticketReply
-returns-3 c =
-    let s = c .before .before .before .before .before .before .before .before .before .args .plain .now in
+returns-2 c =
+    let e = c .before .before .before .before .before .before in
+    let s = e .before .before .before .args .plain .now in
     let l = c .before .before .before .before .before .loop in
-    length-allowed s _ (omega arith) (omega arith)
+    length-allowed s _ (e .before .tickets-length .ensures) (e .if1 .left) _
     (one-refused s _ (l .i) (l .sum) (13 * l .i + 13 - 13 * l .i) (omega arith) (omega arith) _ (omega arith)
     (ap ticketReply (sym (c .enum-told .given .1)) ∙ c .before .before .unpack-ticket .ensures)
-    ∙ l .inv .2)
+    ∙ l .inv .3)
 
 net-requires : tie.Need-net-requires Inv-loop μ-loop
 net-requires c κs = search needs
@@ -84,18 +85,20 @@ loop-again c =
     let s = c .before .before .before .before .before .before .before .before .before .before .before .args .plain .now in
     let l = c .before .before .before .before .before .before .before .loop in (
       omega arith,
+      l .inv .1,
       omega arith,
       one-done s _ (l .i) (l .sum) (13 * l .i + 13 - 13 * l .i) (omega arith) (omega arith) _ _
           (ap ticketReply (sym (c .before .before .t .given .1)) ∙ c .before .before .before .before .unpack-ticket .ensures) (c .net .ensures)
-          ∙ l .inv .2,
+          ∙ l .inv .3,
     )
 
-returns-4 : tie.Need-returns-4 Inv-loop μ-loop
+returns-3 : tie.Need-returns-3 Inv-loop μ-loop
 unfolding openedReply
-returns-4 c =
-    let s = c .before .before .before .before .before .args .plain .now in
+returns-3 c =
+    let e = c .before .before in
+    let s = e .before .before .before .args .plain .now in
     let l = c .before .loop in
-    length-allowed s _ (omega arith) (omega arith) (none-left s _ (l .i) (l .sum) (omega arith) ∙ l .inv .2)
+    length-allowed s _ (e .before .tickets-length .ensures) (e .if1 .left) _ (none-left s _ (l .i) (l .sum) (omega arith) ∙ l .inv .3)
 
 pub totals-spec : {M : Type 1} → statement M
 totals-spec =
@@ -103,8 +106,8 @@ totals-spec =
     (tie.spec
     Inv-loop
     μ-loop
+    tickets-length-requires
     returns
-    returns-2
     loop-holds
     mul-at
     add-end
@@ -114,11 +117,11 @@ totals-spec =
     unpack-ticket-requires
     enum-known-t
     enum-told
-    returns-3
+    returns-2
     net-requires
     cast-sum
     add-sum
     add-i
     loop-less
     loop-again
-    returns-4)
+    returns-3)

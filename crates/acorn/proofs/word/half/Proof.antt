@@ -4,7 +4,7 @@ use Prim.Native.Nat.{ℕ}
 use lib.Bits.{and-mask}
 use mir.Facts.{fits-mask}
 use Rattle.acorn_model.specs.Bits.{bit}
-use Rattle.acorn.proofs.WordBits.{bit-mod}
+use Rattle.acorn_model.proofs.Numbers.{bit-mod}
 use Rattle.acorn.proofs.word.half.Statement.{statement}
 use Rattle.acorn.proofs.word.half.Tie as tie
 

@@ -2,9 +2,6 @@ use borrow.Author.Needs.{needs}
 use Rattle.tape_model.specs.Listing.{headLine}
 use Rattle.listing.proofs.lines.put_head_line.Statement.{statement}
 use Rattle.listing.proofs.lines.put_head_line.Tie as tie
-use Rattle.listing.proofs.lines.put_head_line.Reads as reads
-use Rattle.listing.proofs.lines.put_head_line.Lts as lts
-use Rattle.listing.proofs.text.put_line.Reads as put-line-reads
 
 -- src/lines.rt:29:15
 cast-t5 : tie.Need-cast-t5

@@ -2,9 +2,6 @@ use borrow.Author.Needs.{needs}
 use Rattle.tape_model.specs.Listing.{refusedLine}
 use Rattle.listing.proofs.lines.put_refused_line.Statement.{statement}
 use Rattle.listing.proofs.lines.put_refused_line.Tie as tie
-use Rattle.listing.proofs.lines.put_refused_line.Reads as reads
-use Rattle.listing.proofs.lines.put_refused_line.Lts as lts
-use Rattle.listing.proofs.text.put_line.Reads as put-line-reads
 
 -- src/lines.rt:22:14
 slice-aggregate-put-line : tie.Need-slice-aggregate-put-line

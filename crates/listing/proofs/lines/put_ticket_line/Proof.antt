@@ -2,11 +2,6 @@ use borrow.Author.Needs.{needs}
 use Rattle.listing.proofs.TicketLines.{position-room, rest-start, rest-room, line-wrote, line-within}
 use Rattle.listing.proofs.lines.put_ticket_line.Statement.{statement}
 use Rattle.listing.proofs.lines.put_ticket_line.Tie as tie
-use Rattle.listing.proofs.lines.put_ticket_line.Reads as reads
-use Rattle.listing.proofs.lines.put_ticket_line.Lts as lts
-use Rattle.listing.proofs.lines.ticket_numbers.Reads as ticket-numbers-reads
-use Rattle.listing.proofs.text.put_decimal.Reads as put-decimal-reads
-use Rattle.listing.proofs.text.put_rest.Reads as put-rest-reads
 
 -- src/lines.rt:60:14
 ticket-numbers-requires : tie.Need-ticket-numbers-requires

@@ -14,10 +14,6 @@ use Rattle.tape_model.specs.Listing.{ticketLines}
 use Rattle.listing.specs.Contracts.{Wrote, unpacked}
 use Rattle.listing.proofs.lines.put_ticket_lines.Statement.{statement}
 use Rattle.listing.proofs.lines.put_ticket_lines.Tie as tie
-use Rattle.listing.proofs.lines.put_ticket_lines.Reads as reads
-use Rattle.listing.proofs.lines.put_ticket_lines.Lts as lts
-use Rattle.listing.proofs.lines.put_ticket_line.Reads as put-ticket-line-reads
-use Rattle.reader.proofs.read_at.Reads as read-at-reads
 
 abbrev Inv-loop : tie.InvT-loop
 Inv-loop plain out₀ tickets i₀ at₀ out i at = (i ≤ tickets) × Wrote (ticketLines 1 (take i (ticketsIn (unpacked plain)))) out₀ at out

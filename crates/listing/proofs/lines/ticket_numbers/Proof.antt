@@ -1,10 +1,6 @@
 use borrow.Author.Needs.{needs}
-use Rattle.listing.specs.Contracts.{ticketNumbers}
 use Rattle.listing.proofs.lines.ticket_numbers.Statement.{statement}
 use Rattle.listing.proofs.lines.ticket_numbers.Tie as tie
-use Rattle.listing.proofs.lines.ticket_numbers.Reads as reads
-use Rattle.listing.proofs.lines.ticket_numbers.Lts as lts
-use Rattle.ticket.proofs.net.Reads as net-reads
 
 -- src/lines.rt:46:9
 cast-t2 : tie.Need-cast-t2
@@ -40,7 +36,6 @@ cast-t9 c = search needs
 
 -- src/lines.rt:42:1
 returns : tie.Need-returns
-unfolding ticketNumbers
 returns c = cc
 
 pub ticket-numbers-spec : {M : Type 1} → statement M

@@ -1,5 +1,5 @@
 -- `put_line`: a word, and the rest of its line behind it.
-use mathlib.Core.Path.{ap, sym}
+use mathlib.Core.Path.{ap}
 use mathlib.Core.List.{_++_}
 use Prim.Native.Nat.{_≤_}
 use native.Mathlib.Omega.{arith}

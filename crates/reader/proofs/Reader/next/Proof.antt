@@ -49,9 +49,9 @@ use Rattle.reader.specs.declared.Reader.{Reader}
 use Rattle.reader.specs.declared.ReadAt.{ReadAt}
 use Rattle.reader.proofs.Reader as T
 use Rattle.reader.proofs.Reader.Laws as T′
-use Rattle.reader.specs.declared.Handed.{Handed}
-use Rattle.reader.proofs.Handed as N
-use Rattle.reader.proofs.Handed.Laws as N′
+use Rattle.reader.specs.declared.ReaderReply.{ReaderReply}
+use Rattle.reader.proofs.ReaderReply as N
+use Rattle.reader.proofs.ReaderReply.Laws as N′
 use Rattle.reader.proofs.ReadAt as S
 use Rattle.reader.proofs.ReadAt.Laws as S′
 use Rattle.reader.proofs.read_at as read
@@ -111,7 +111,7 @@ module _ {M : Type 1} (𝓤 : URA M) (H : Heap 𝓤) (A : Atoms 𝓤) (W : Given
   abbrev d′ : ReadAt → Reader
   d′ r = record { bytes = d .bytes; position = r .position }
 
-  abbrev h : ReadAt → Handed
+  abbrev h : ReadAt → ReaderReply
   h r = record { reader = d′ r; answer = r .answer }
 
   abbrev HD : Declared

@@ -45,7 +45,7 @@ returns-2 c =
     let a = accept .before .before .before .before .before .args in
     let n = number-is (accept .before) in
     let next = begun (a .key .now) (a .nonce .now) (machineOf (a .self)) in
-    let state = rw (passes n (accept .if1 .left) .sized) at (c .before .before .start .ensures) in
+    let state = rw (passes n (accept .if1 .left) .sizes) at (c .before .before .start .ensures) in
     writes n (accept .if1 .left) [] [] next refl _ (stands-for _ next refl refl state refl refl (c .before .wrapping-add-u64 .ensures)) 0 refl [] refl _ (c .done .ensures)
 
 pub begin-spec : {M : Type 1} → statement M

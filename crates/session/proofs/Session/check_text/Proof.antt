@@ -25,7 +25,7 @@ number-is c =
 -- the piece of an accepted call
 fits : (c : tie.Else1) → let a = c .before .before .before .before .before .before .args in a .self .«text_bytes» + length (a .piece .now) ≤ byteLimit
 unfolding machineOf overLimit
-fits c = let a = c .before .before .before .before .before .before .args in ltb-false byteLimit (a .self .«text_bytes» + length (a .piece .now)) (passes (number-is (c .before)) (c .if1 .left) .fits)
+fits c = let a = c .before .before .before .before .before .before .args in ltb-false byteLimit (a .self .«text_bytes» + length (a .piece .now)) (passes (number-is (c .before)) (c .if1 .left) .limit)
 
 is-checking-requires : tie.Need-is-checking-requires
 is-checking-requires c κs = search needs
@@ -62,7 +62,7 @@ returns-2 c =
     let accept = c .before .before .before .before in
     let a = accept .before .before .before .before .before .before .args in
     let n = number-is (accept .before) in
-    let checks = both (isChecking (a .self .kind)) (isData (a .self .phase) || isText (a .self .phase)) (passes n (accept .if1 .left) .allowed) .0 in
+    let checks = both (isChecking (a .self .kind)) (isData (a .self .phase) || isText (a .self .phase)) (passes n (accept .if1 .left) .phase) .0 in
     let state = c .before .before .ciphertext-taken .ensures ∙ text-state (a .self) (a .piece .now) true checks in
     writes n (accept .if1 .left) [] [] (textTaken (a .piece .now) (machineOf (a .self))) refl (next .result) (next .ensures state) 0 refl [] refl _ (c .done .ensures)
 

@@ -21,7 +21,7 @@ number-is c = by-tests _ _ _ _ (c .number .ensures) (sym (c .before .before .is-
 -- the piece of an accepted call
 fits : (c : tie.Else1) → let a = c .before .before .before .before .before .args in a .self .«data_bytes» + length (a .piece .now) ≤ byteLimit
 unfolding machineOf overLimit
-fits c = let a = c .before .before .before .before .before .args in ltb-false byteLimit (a .self .«data_bytes» + length (a .piece .now)) (passes (number-is (c .before)) (c .if1 .left) .fits)
+fits c = let a = c .before .before .before .before .before .args in ltb-false byteLimit (a .self .«data_bytes» + length (a .piece .now)) (passes (number-is (c .before)) (c .if1 .left) .limit)
 
 is-data-requires : tie.Need-is-data-requires
 is-data-requires c κs = search needs

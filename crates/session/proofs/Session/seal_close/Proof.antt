@@ -60,7 +60,7 @@ returns-2 c =
     let a = accept .before .before .before .before .before .args in
     let n = number-is (accept .before) in
     let m = machineOf (a .self) in
-    let tag = rw (passes n (accept .if1 .left) .room) at (c .before .before .before .before .write-tag .ensures) in
+    let tag = rw (passes n (accept .if1 .left) .output) at (c .before .before .before .before .write-tag .ensures) in
     let output = tag ∙ ap (λ (S : Bits). writtenOver (tagOf S) (a .out .now)) (ended .text-ended .ensures ∙ closing-state (a .self)) in
     writes n (accept .if1 .left) _ (a .out .now) (closed m) refl _ (c .before .closed .ensures) 16 (sym (tagOf-length (textEnded m .state))) _ output _ (c .done .ensures)
 

@@ -69,7 +69,7 @@ unfolding machineOf overLimit
 text-taken-requires c κs =
     let accept = c .before .before .before .before .before .before in
     let a = accept .before .before .before .before .before .before .before .before .args in
-    ltb-false byteLimit (a .self .«text_bytes» + length (a .piece .now)) (passes (none-applies accept) refl .fits)
+    ltb-false byteLimit (a .self .«text_bytes» + length (a .piece .now)) (passes (none-applies accept) refl .limit)
 
 done-requires : tie.Need-done-requires
 done-requires c κs = search needs
@@ -87,9 +87,9 @@ returns-4 c =
     let a = accept .before .before .before .before .before .before .before .before .args in
     let n = none-applies accept in
     let p = passes n refl in
-    let seals = sealing-only (a .self .kind) (isData (a .self .phase) || isText (a .self .phase)) (p .allowed) in
-    let state = rw (p .room, ended .ensures) at (text .ensures .state) ∙ text-state (a .self) (a .piece .now) false seals in
-    let output = rw (p .room, ended .ensures) at (text .ensures .output) ∙ sealed-output (a .self) (a .piece .now) (a .out .now) in
+    let seals = sealing-only (a .self .kind) (isData (a .self .phase) || isText (a .self .phase)) (p .phase) in
+    let state = rw (p .output, ended .ensures) at (text .ensures .state) ∙ text-state (a .self) (a .piece .now) false seals in
+    let output = rw (p .output, ended .ensures) at (text .ensures .output) ∙ sealed-output (a .self) (a .piece .now) (a .out .now) in
     writes n refl _ (a .out .now) (textTaken (a .piece .now) (machineOf (a .self))) refl (next .result) (next .ensures state)
     (length (a .piece .now)) (sym (textOut-length false (a .piece .now) (dataEnded (machineOf (a .self)) .state))) _ output _ (c .done .ensures)
 

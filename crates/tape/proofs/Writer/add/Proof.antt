@@ -35,7 +35,7 @@ unfolding ticketRight
 bytes-are c =
     let accept = c .before .before in
     let a = accept .before .before .before .before .before .before .before .args in
-    ticket-packed (a .ticket) _ (c .packed .ensures) (passes (a .self) (add (a .ticket) (a .out .now)) _ (none-applies accept) refl .ticketed)
+    ticket-packed (a .ticket) _ (c .packed .ensures) (passes (a .self) (add (a .ticket) (a .out .now)) _ (none-applies accept) refl .ticket)
 
 is-open-requires : tie.Need-is-open-requires
 is-open-requires c κs = search needs
@@ -117,7 +117,7 @@ unfolding writerOf tapeFull
 add-t22 c =
     let accept = c .before .before .before .before .before .before .before .before .before .before in
     let a = accept .before .before .before .before .before .before .before .args in
-    omega (arith, leb-false ticketLimit (a .self .tickets) (passes (a .self) (add (a .ticket) (a .out .now)) _ (none-applies accept) refl .free))
+    omega (arith, leb-false ticketLimit (a .self .tickets) (passes (a .self) (add (a .ticket) (a .out .now)) _ (none-applies accept) refl .full))
 
 same-length-2 : tie.Need-same-length-2
 same-length-2 c = search needs

@@ -9,7 +9,8 @@ use Rattle.tape_model.specs.Writer.{start, outputOf, phaseAllows, keyRight, hea
 use Rattle.tape_model.proofs.Tickets.{head-length}
 use Rattle.tape.specs.Contracts.{writerOf}
 use Rattle.tape.proofs.Packed.{copied}
-use Rattle.tape.proofs.WriterCalls.{Passes, passes, refuses, accepts, not-started, head-written}
+use Rattle.tape_model.proofs.Refusals.{WriterPassed}
+use Rattle.tape.proofs.WriterCalls.{passes, refuses, accepts, not-started, head-written}
 use Rattle.tape.proofs.Writer.start.Statement.{statement}
 use Rattle.tape.proofs.Writer.start.Tie as tie
 
@@ -21,14 +22,14 @@ number-is c =
     c .number .ensures (writerOf (a .self)) (start (a .key .now) (a .head) (a .out .now)) (sym (c .before .is-fresh .ensures)) refl
     (sym (c .before .before .head-valid .ensures)) refl refl refl
 
-accepted : (c : tie.Else1) → let a = c .before .before .before .before .before .before .args in Passes (writerOf (a .self)) (start (a .key .now) (a .head) (a .out .now))
+accepted : (c : tie.Else1) → let a = c .before .before .before .before .before .before .args in WriterPassed (writerOf (a .self)) (start (a .key .now) (a .head) (a .out .now))
 accepted c =
     let a = c .before .before .before .before .before .before .args in
     passes (a .self) (start (a .key .now) (a .head) (a .out .now)) (c .before .number .result) (number-is (c .before)) (c .if1 .left)
 
 bytes-are : (c : tie.After-head-bytes) → c .head-bytes .result ≡ packHead (c .before .before .before .before .before .before .before .args .head)
 unfolding headRight
-bytes-are c = c .head-bytes .ensures (accepted (c .before) .headed)
+bytes-are c = c .head-bytes .ensures (accepted (c .before) .head)
 
 head-valid-requires : tie.Need-head-valid-requires
 head-valid-requires c κs = search needs
@@ -84,7 +85,7 @@ copy-requires c κs =
     let packed = c .before .before .before .before .before .before .before .before in
     let a = packed .before .before .before .before .before .before .before .args in
     let long : length (packed .head-bytes .result) ≡ headLength = ap length (bytes-are packed) ∙ head-length (a .head) in
-    omega (arith, long, ltb-false (length (a .out .now)) headLength (accepted (packed .before) .room))
+    omega (arith, long, ltb-false (length (a .out .now)) headLength (accepted (packed .before) .output))
 
 same-length : tie.Need-same-length
 same-length c = search needs

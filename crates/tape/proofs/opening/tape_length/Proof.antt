@@ -1,7 +1,8 @@
 -- `tape_length` is the rule for a tape's length.
 use borrow.Author.Tests.{le-leb, lt-leb}
 use native.Mathlib.Omega.{arith}
-use Rattle.tape_model.specs.Tape.{emptyTapeLength, ticketsLength, tapeLength}
+use borrow.Author.Needs.{needs}
+use Rattle.tape_model.specs.Tape.{emptyTapeLength, tapeLength}
 use Rattle.tape.proofs.opening.tape_length.Statement.{statement}
 use Rattle.tape.proofs.opening.tape_length.Tie as tie
 
@@ -9,9 +10,12 @@ returns : tie.Need-returns
 unfolding tapeLength
 returns c = rw (lt-leb emptyTapeLength (c .before .args .n) (omega (arith, c .if1 .taken)))
 
+tickets-length-requires : tie.Need-tickets-length-requires
+tickets-length-requires c κs = search needs
+
 returns-2 : tie.Need-returns-2
-unfolding tapeLength ticketsLength
-returns-2 c = rw (le-leb emptyTapeLength (c .before .args .n) (omega (arith, c .if1 .left)))
+unfolding tapeLength
+returns-2 c = rw (le-leb emptyTapeLength (c .before .before .args .n) (omega (arith, c .before .if1 .left))) (c .tickets-length .ensures)
 
 pub tape-length-spec : {M : Type 1} → statement M
-tape-length-spec = tie.close (tie.spec returns returns-2)
+tape-length-spec = tie.close (tie.spec returns tickets-length-requires returns-2)

@@ -1,8 +1,8 @@
 -- `tickets_length` is the rule for the length of opened bytes.
 use mathlib.Core.Path.{refl}
 use Rattle.tape_model.specs.Tape.{ticketsLength}
-use Rattle.reader.proofs.tickets_length.Statement.{statement}
-use Rattle.reader.proofs.tickets_length.Tie as tie
+use Rattle.ticket.proofs.tickets_length.Statement.{statement}
+use Rattle.ticket.proofs.tickets_length.Tie as tie
 
 returns : tie.Need-returns
 unfolding ticketsLength

@@ -1,15 +1,14 @@
--- Chains of refusal numbers, for calls of any kind; and what a call has passed that the machine, or the writer, accepts.
+-- Chains of refusal numbers, for calls of any kind: what a number says of the tests, and what a call comes to by its number. And what a call has
+-- passed that the machine accepts.
 use mathlib.Core.Path.{_≡_, refl}
 use mathlib.Core.Bool.{Bool, true, false}
 use Prim.Native.Nat.{ℕ, zero, suc}
 use native.Mathlib.Omega.{arith}
 use lib.Dec.{eqb}
 use borrow.Author.Tests.{eqb-false, not-false}
 use Rattle.acorn_model.specs.Bits.{_if_else_}
 use Rattle.acorn_model.specs.Calls.{unlessRefused}
 use Rattle.acorn_model.specs.Machine.{Machine, Call, phaseAllows, sizesRight, overLimit, outputShort, refusal, work, call}
-use Rattle.tape_model.specs.Writer.{PlainWriter, WriterCall, keyRight, headRight, ticketRight, tapeFull}
-use Rattle.tape_model.specs.Writer.{phaseAllows as writerAllows, outputShort as writerShort, refusal as writerRefusal}
 
 -- ## Any chain
 
@@ -17,6 +16,17 @@ use Rattle.tape_model.specs.Writer.{phaseAllows as writerAllows, outputShort as
 pub link : (b : Bool) (n rest k : ℕ) → eqb n k ≡ false → (n if b else rest) ≡ k → (b ≡ false) × (rest ≡ k)
 link true n rest k h e = absurd (eqb-false n k h e)
 link false n rest k h e = (refl, e)
+
+-- ## By the number
+
+pub refused-if : {A : Type 0} (n : ℕ) (work refusal : A) → (n ≡ 0 → ⊥) → unlessRefused n work refusal ≡ refusal
+unfolding unlessRefused
+refused-if zero work refusal h = absurd (h refl)
+refused-if (suc n) work refusal h = refl
+
+pub accepted-if : {A : Type 0} (n : ℕ) (work refusal : A) → n ≡ 0 → unlessRefused n work refusal ≡ work
+unfolding unlessRefused
+accepted-if n work refusal e = rw e
 
 -- what holds of the work where no number applies, and of the refusal where one does, holds of what the call comes to
 pub by-number : {A : Type 0} (P : A → Type 0) (n : ℕ) (work refusal : A) → (n ≡ 0 → P work) → ((n ≡ 0 → ⊥) → P refusal) → P (unlessRefused n work refusal)
@@ -55,31 +65,3 @@ module _ (m : Machine) (c : Call) where
   pub works : Passed m c → call m c ≡ work m c
   unfolding call unlessRefused refusal
   works p = rw (p .phase, p .sizes, p .limit, p .output)
-
--- ## The writer's chain
-
-pub record WriterPassed (w : PlainWriter) (c : WriterCall) : Type 0 where
-  pub phase : writerAllows (w .phase) c ≡ true
-  pub key : keyRight c ≡ true
-  pub head : headRight c ≡ true
-  pub ticket : ticketRight c ≡ true
-  pub full : tapeFull (w .tickets) c ≡ false
-  pub output : writerShort c ≡ false
-
-pub writer-passed : (w : PlainWriter) (c : WriterCall) → writerRefusal w c ≡ 0 → WriterPassed w c
-unfolding writerRefusal
-writer-passed w c e =
-    let e₁ = link _ 1 _ 0 refl e in
-    let e₂ = link _ 2 _ 0 refl (e₁ .1) in
-    let e₃ = link _ 3 _ 0 refl (e₂ .1) in
-    let e₄ = link _ 4 _ 0 refl (e₃ .1) in
-    let e₅ = link _ 5 _ 0 refl (e₄ .1) in
-    let e₆ = link _ 6 _ 0 refl (e₅ .1) in
-    record {
-      phase = not-false _ (e₁ .0);
-      key = not-false _ (e₂ .0);
-      head = not-false _ (e₃ .0);
-      ticket = not-false _ (e₄ .0);
-      full = e₅ .0;
-      output = e₆ .0;
-    }
