@@ -13,7 +13,7 @@ use tape_model::OpenedTape;
 use tape_model::UnpackedHead;
 ghost use mathlib.Core.Path.{_≡_};
 ghost use Prim.Native.Nat.{_+_, _-_, _≤_};
-ghost use lib.ListN.{length, take};
+ghost use lib.ListN.{length, take, replicate};
 ghost use Rattle.acorn_model.specs.Stretches.{tagLength, afterData};
 ghost use Rattle.acorn_model.specs.Calls.{unlessRefused};
 ghost use Rattle.acorn_model.specs.Machine.{keyLength};
@@ -100,14 +100,20 @@ pub(crate) fn open_by(scratch: &mut [u8], key: &[u8], tape: &[u8], out: &mut [u8
     OpenedTape::Done(n / 13, net)
 }
 
-pub(crate) fn zeros_512() -> [u8; 512] {
+pub(crate) fn zeros_512() -> [u8; 512]
+    ensures { λ r. ⌜ r ≡ replicate 512 0 ⌝ }
+{
     [0; 512]
 }
 
-pub(crate) fn zeros_8192() -> [u8; 8192] {
+pub(crate) fn zeros_8192() -> [u8; 8192]
+    ensures { λ r. ⌜ r ≡ replicate 8192 0 ⌝ }
+{
     [0; 8192]
 }
 
-pub(crate) fn zeros_65536() -> [u8; 65536] {
+pub(crate) fn zeros_65536() -> [u8; 65536]
+    ensures { λ r. ⌜ r ≡ replicate 65536 0 ⌝ }
+{
     [0; 65536]
 }
