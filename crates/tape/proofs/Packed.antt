@@ -4,10 +4,11 @@ use mathlib.Core.Bool.{Bool, true, false, not}
 use mathlib.Core.List.{List, _++_, append-nil}
 use Prim.Native.Nat.{ℕ}
 use native.Mathlib.Omega.{arith}
+use lib.Dec.{ltb}
 use lib.ListN.{length, take, drop, replicate}
 use lib.Seq.{take-all}
 use Rattle.acorn_model.specs.Bits.{_if_else_}
-use Rattle.acorn_model.specs.Calls.{Reply, refused, done, unlessRefused, writtenOver}
+use Rattle.acorn_model.specs.Calls.{Reply, refused, done, accepted, unlessRefused, writtenOver}
 use Rattle.acorn_model.specs.Message.{Result, resultOf}
 use Rattle.tape_model.specs.declared.Ticket.{Ticket}
 use Rattle.tape_model.specs.declared.Head.{Head}
@@ -24,12 +25,16 @@ ticket-packed t string e met = rw met at e
 
 -- ## Heads
 
--- into 9 bytes the packed head is written whole
-pub head-packed : (h : Head) (a : Reply ℕ) (string : List ℕ) → headRule h ≡ true → packHeadInto h (replicate headLength 0) ≡ record { answer = a; out = string }
-    → string ≡ packHead h
+-- into 9 bytes of zeros the packed head is written whole, where the rule is met
+pub head-packed : (h : Head) (a : Reply ℕ) (string : List ℕ) → packHeadInto h (replicate headLength 0) ≡ record { answer = a; out = string }
+    → string ≡ (packHead h if headRule h else replicate headLength 0)
 unfolding packHeadInto resultOf unlessRefused writtenOver
-head-packed h a string met e =
-    sym (ap (λ (r : Result ℕ). r .out) (rw met at e)) ∙ rw (head-length h) (append-nil (packHead h))
+head-packed h a string e = sym (ap (λ (r : Result ℕ). r .out) e) ∙ by (headRule h)
+  where
+    by : (b : Bool) → let zeros : List ℕ = replicate headLength 0 in
+        resultOf (3 if not b else 6 if ltb (length zeros) headLength else accepted) headLength (packHead h) zeros .out ≡ (packHead h if b else zeros)
+    by true = rw (head-length h) (append-nil (packHead h))
+    by false = refl
 
 -- 9 bytes copied over 16 zeros are the nonce
 pub head-filled : (head nonce : List ℕ) → length head ≡ headLength → nonce ≡ take (length head) head ++ drop (length head) (replicate 16 0) → nonce ≡ nonceOf head

@@ -19,9 +19,9 @@ use tape_model::OpenedTape;
 use tape_model::Ticket;
 use tape_model::WriterPhase;
 ghost use mathlib.Core.Path.{_≡_};
-ghost use mathlib.Core.Bool.{true};
 ghost use mathlib.Core.List.{[]};
-ghost use lib.ListN.{length};
+ghost use lib.ListN.{length, replicate};
+ghost use Rattle.acorn_model.specs.Bits.{_if_else_};
 ghost use Rattle.tape_model.specs.Ticket.{headLength, headRule, packHead};
 ghost use Rattle.tape_model.specs.Tape.{nonceOf, openTape, openedReply};
 ghost use Rattle.tape_model.specs.Writer as plain;
@@ -42,7 +42,7 @@ pub struct WriterReply {
 
 // A packed head; zeros where it breaks the rule.
 fn head_bytes(head: Head) -> [u8; 9]
-    ensures { λ r. ⌜ (headRule head ≡ true → r ≡ packHead head) ⌝ }
+    ensures { λ r. ⌜ r ≡ (packHead head if headRule head else replicate headLength 0) ⌝ }
 {
     let mut packed = [0; 9];
     ticket::pack_head(head, &mut packed);

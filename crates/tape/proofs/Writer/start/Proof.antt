@@ -1,9 +1,11 @@
 -- `Writer::start` meets its contract.
 use mathlib.Core.Path.{_≡_, refl, sym, ap, _∙_}
+use mathlib.Core.Bool.{Bool}
 use native.Mathlib.Omega.{arith}
 use borrow.Author.Needs.{needs}
 use borrow.Author.Tests.{ltb-false}
-use lib.ListN.{length}
+use lib.ListN.{length, replicate}
+use Rattle.acorn_model.specs.Bits.{_if_else_}
 use Rattle.tape_model.specs.Ticket.{headLength, packHead}
 use Rattle.tape_model.specs.Writer.{start, outputOf, phaseAllows, keyRight, headRight, ticketRight, tapeFull, outputShort, refusal}
 use Rattle.tape_model.proofs.Tickets.{head-length}
@@ -29,7 +31,9 @@ accepted c =
 
 bytes-are : (c : tie.After-head-bytes) → c .head-bytes .result ≡ packHead (c .before .before .before .before .before .before .before .args .head)
 unfolding headRight
-bytes-are c = c .head-bytes .ensures (accepted (c .before) .head)
+bytes-are c =
+    let head = c .before .before .before .before .before .before .before .args .head in
+    c .head-bytes .ensures ∙ ap (λ (b : Bool). packHead head if b else replicate headLength 0) (accepted (c .before) .head)
 
 head-valid-requires : tie.Need-head-valid-requires
 head-valid-requires c κs = search needs
