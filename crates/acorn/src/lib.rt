@@ -1,14 +1,14 @@
-// ACORN-128 v3 on words: up to 32 steps together, and the runs over data, text and the fixed stretches.
+// ACORN-128 v3 on words: the runs over data, text and the fixed stretches.
 mod bytes;
-mod kernel;
 pub mod stretch;
-mod word;
 
+pub use acorn_kernel::State;
+use acorn_kernel::together;
+pub use acorn_kernel::zeros;
 use bytes::load_rest;
 use bytes::load_word;
 use bytes::store_rest;
 use bytes::store_word;
-use kernel::together;
 use stretch::DATA_END;
 use stretch::FINAL;
 use stretch::TEXT_END;
@@ -17,20 +17,9 @@ use stretch::key_again;
 use stretch::leading_one;
 ghost use mathlib.Core.Path.{_≡_};
 ghost use mathlib.Core.Bool.{false, true};
-ghost use Rattle.acorn_model.specs.Stretches.{zeros as allZeros, through, dataPiece, dataEnd, textPiece, textEnd, tagOf};
-ghost use Rattle.acorn.specs.Together.{stateOf};
+ghost use Rattle.acorn_model.specs.Stretches.{through, dataPiece, dataEnd, textPiece, textEnd, tagOf};
+ghost use Rattle.acorn_kernel.specs.Together.{stateOf};
 ghost use Rattle.acorn.specs.Runs.{TextRun, startState, tagOutput};
-
-// The 293 bits in six words: S0 to S60, S61 to S106, S107 to S153, S154 to S192, S193 to S229, S230 to S292.
-// Each has the highest places of its word; the bits below are of no account.
-pub struct State {
-    pub w0: u64,
-    pub w1: u64,
-    pub w2: u64,
-    pub w3: u64,
-    pub w4: u64,
-    pub w5: u64,
-}
 
 // Each run over a piece goes 32 steps at a time while as many are left, and then takes the rest at once. Its control bits are literals,
 // those of the rows of text and data; the laws `data-controls` and `text-controls` tie them to `controls_at`.
@@ -139,20 +128,6 @@ pub fn check_text(s: State, piece: &[u8]) -> State
         t = next;
     }
     t
-}
-
-// The state of all zeros.
-pub fn zeros() -> State
-    ensures { λ r. ⌜ stateOf r ≡ allZeros ⌝ }
-{
-    State {
-        w0: 0,
-        w1: 0,
-        w2: 0,
-        w3: 0,
-        w4: 0,
-        w5: 0,
-    }
 }
 
 // Start, from all zeros, of a key and a nonce of 16 bytes; of others the state stays all zeros.

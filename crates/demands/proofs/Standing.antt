@@ -15,10 +15,10 @@ use Rattle.acorn_model.specs.Machine.{runThrough, enter, cleared, countData, co
 use Rattle.acorn_model.proofs.Numbers.{number-bit}
 use Rattle.tape_model.specs.Writer.{PlainWriter, WriterCall, start, add, finish, onAnswer, passedOn, started, writerCall}
 use Rattle.tape_model.specs.Writer as plain
-use Rattle.acorn.specs.declared.State.{State}
-use Rattle.acorn.specs.Together.{stateOf}
-use Rattle.acorn.proofs.StateWords.{at-above, state-is}
-use Rattle.acorn.proofs.ClosedForm.{run-above}
+use Rattle.acorn_kernel.specs.declared.State.{State}
+use Rattle.acorn_kernel.specs.Together.{stateOf}
+use Rattle.acorn_kernel.proofs.StateWords.{at-above, state-is}
+use Rattle.acorn_kernel.proofs.ClosedForm.{run-above}
 use Rattle.call_lists.proofs.Refusals.{by-number}
 use Rattle.session.specs.declared.Session.{Session}
 use Rattle.session.specs.Contracts.{machineOf}

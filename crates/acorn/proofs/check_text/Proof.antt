@@ -3,10 +3,11 @@ use mathlib.Core.Path.{_≡_, refl}
 use mathlib.Core.Bool.{true}
 use Prim.Native.Nat.{_≤_, _+_, _-_, _*_, _%_}
 use native.Mathlib.Omega.{arith}
+use borrow.Author.Needs.{needs}
 use lib.ListN.{length}
 use Rattle.acorn_model.specs.Step.{run}
 use Rattle.acorn_model.specs.Stretches.{inputs, textPiece}
-use Rattle.acorn.specs.Together.{stateOf}
+use Rattle.acorn_kernel.specs.Together.{stateOf}
 use Rattle.acorn.proofs.StretchRuns.{state-none, state-all, text-more}
 use Rattle.acorn.proofs.check_text.Statement.{statement}
 use Rattle.acorn.proofs.check_text.Tie as tie
@@ -27,7 +28,7 @@ load-word-requires : tie.Need-load-word-requires Inv-loop μ-loop
 load-word-requires c κs = omega arith
 
 together-requires : tie.Need-together-requires Inv-loop μ-loop
-together-requires c κs = omega arith
+together-requires c κs = search needs
 
 add-i : tie.Need-add-i Inv-loop μ-loop
 add-i c = omega arith
@@ -46,7 +47,7 @@ loop-again c =
       v .inv .0,
       omega arith,
       omega arith,
-      text-more (a .piece .now) (stateOf (a .s)) (stateOf (v .t)) (stateOf (run .result .state)) (v .i) 4 (word .result) (run .result .ks) (word .ensures) true (v .inv .3) (run .ensures),
+      text-more (a .piece .now) (stateOf (a .s)) (stateOf (v .t)) (stateOf (run .result .state)) (v .i) 4 (word .result) (run .result .ks) (omega arith) (word .ensures) true (v .inv .3) (run .ensures),
     )
 
 sub-k : tie.Need-sub-k Inv-loop μ-loop
@@ -59,7 +60,7 @@ mul-together : tie.Need-mul-together Inv-loop μ-loop
 mul-together c = omega arith
 
 together-requires-2 : tie.Need-together-requires-2 Inv-loop μ-loop
-together-requires-2 c κs = omega arith
+together-requires-2 c κs = search needs
 
 returns : tie.Need-returns Inv-loop μ-loop
 returns c =
@@ -71,7 +72,7 @@ returns c =
     let run = stepped .together2 in
     let k = length (a .piece .now) - v .i in
     state-all (textPiece true (a .piece .now)) (stateOf (a .s)) (stateOf (run .result .state)) (8 * (v .i + k)) (omega arith)
-    (text-more (a .piece .now) (stateOf (a .s)) (stateOf (v .t)) (stateOf (run .result .state)) (v .i) k (word .result) (run .result .ks) (word .ensures) true (v .inv .3) (run .ensures))
+    (text-more (a .piece .now) (stateOf (a .s)) (stateOf (v .t)) (stateOf (run .result .state)) (v .i) k (word .result) (run .result .ks) (omega arith) (word .ensures) true (v .inv .3) (run .ensures))
 
 returns-2 : tie.Need-returns-2 Inv-loop μ-loop
 returns-2 c =

@@ -3,8 +3,9 @@ use mathlib.Core.Path.{_≡_, refl, _∙_}
 use mathlib.Core.Bool.{true}
 use Prim.Native.Nat.{_≤_, _+_, _-_, _%_}
 use native.Mathlib.Omega.{arith}
+use borrow.Author.Needs.{needs}
 use lib.ListN.{length}
-use Rattle.acorn.specs.Together.{stateOf}
+use Rattle.acorn_kernel.specs.Together.{stateOf}
 use Rattle.acorn.proofs.StretchRuns.{TextUpTo, text-none, text-further, text-all, text-refused}
 use Rattle.acorn.proofs.decrypt.Statement.{statement}
 use Rattle.acorn.proofs.decrypt.Tie as tie
@@ -29,7 +30,7 @@ load-word-requires : tie.Need-load-word-requires Inv-loop μ-loop
 load-word-requires c κs = omega arith
 
 together-requires : tie.Need-together-requires Inv-loop μ-loop
-together-requires c κs = omega arith
+together-requires c κs = search needs
 
 store-word-requires : tie.Need-store-word-requires Inv-loop μ-loop
 store-word-requires c κs = omega arith
@@ -68,7 +69,7 @@ mul-together : tie.Need-mul-together Inv-loop μ-loop
 mul-together c = omega arith
 
 together-requires-2 : tie.Need-together-requires-2 Inv-loop μ-loop
-together-requires-2 c κs = omega arith
+together-requires-2 c κs = search needs
 
 store-rest-requires : tie.Need-store-rest-requires Inv-loop μ-loop
 store-rest-requires c κs = omega arith

@@ -6,7 +6,7 @@ use native.Mathlib.Omega.{arith}
 use borrow.Author.Needs.{needs}
 use Rattle.acorn_model.specs.Step.{run}
 use Rattle.acorn_model.specs.Stretches.{inputs, textEnd}
-use Rattle.acorn.specs.Together.{stateOf}
+use Rattle.acorn_kernel.specs.Together.{stateOf}
 use Rattle.acorn.specs.Table.{firstStep, rowOf}
 use Rattle.acorn.specs.declared.stretch.Stretch.the-variants.{TextEnd}
 use Rattle.acorn.proofs.StretchRuns.{state-none, state-all}
@@ -34,7 +34,7 @@ controls-at-requires : tie.Need-controls-at-requires Inv-loop μ-loop
 controls-at-requires c κs = search needs
 
 together-requires : tie.Need-together-requires Inv-loop μ-loop
-together-requires c κs = omega arith
+together-requires c κs = search needs
 
 add-n : tie.Need-add-n Inv-loop μ-loop
 add-n c = omega arith

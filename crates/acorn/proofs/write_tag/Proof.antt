@@ -8,7 +8,7 @@ use lib.ListN.{length, drop}
 use Rattle.acorn_model.specs.Bits.{bytes}
 use Rattle.acorn_model.specs.Step.{run}
 use Rattle.acorn_model.specs.Stretches.{inputs, keystream, final}
-use Rattle.acorn.specs.Together.{stateOf}
+use Rattle.acorn_kernel.specs.Together.{stateOf}
 use Rattle.acorn.proofs.StretchRuns.{state-none, Written, written-none, written-more}
 use Rattle.acorn.proofs.FixedRuns.{final-more, final-ks, tag-all, tag-refused}
 use Rattle.acorn.proofs.write_tag.Statement.{statement}
@@ -40,7 +40,7 @@ controls-at-requires : tie.Need-controls-at-requires Inv-loop μ-loop Inv-loop2 
 controls-at-requires c κs = search needs
 
 together-requires : tie.Need-together-requires Inv-loop μ-loop Inv-loop2 μ-loop2
-together-requires c κs = omega arith
+together-requires c κs = search needs
 
 add-n : tie.Need-add-n Inv-loop μ-loop Inv-loop2 μ-loop2
 add-n c = omega arith
@@ -71,7 +71,7 @@ controls-at-requires-2 : tie.Need-controls-at-requires-2 Inv-loop μ-loop Inv-lo
 controls-at-requires-2 c κs = search needs
 
 together-requires-2 : tie.Need-together-requires-2 Inv-loop μ-loop Inv-loop2 μ-loop2
-together-requires-2 c κs = omega arith
+together-requires-2 c κs = search needs
 
 store-word-requires : tie.Need-store-word-requires Inv-loop μ-loop Inv-loop2 μ-loop2
 store-word-requires c κs = omega arith
