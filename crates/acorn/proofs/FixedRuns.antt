@@ -107,7 +107,7 @@ end-more end S T T' n x z ca cb h d ea eb reached bits steps =
 
 -- ## Final
 
-module _ (S T T' : Bits) (step n z : ℕ) (ca cb : Bool) (h : 2304 ≤ step) (ea : ca ≡ caAt step) (eb : cb ≡ cbAt step) (reached : T ≡ run (inputs final) n S)
+module _ (S T T' : Bits) (step n z : ℕ) (ca cb : Bool) (h : 1050880 ≤ step) (ea : ca ≡ caAt step) (eb : cb ≡ cbAt step) (reached : T ≡ run (inputs final) n S)
     (steps : Together T 0 false ca cb 32 T' z) where
   same : (i : ℕ) → i < 32 → inputsFrom false ca cb (bit 0) i ≡ inputs final (n + i)
   unfolding rowOf

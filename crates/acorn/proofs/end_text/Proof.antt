@@ -10,7 +10,7 @@ use Rattle.acorn_kernel.specs.Together.{stateOf}
 use Rattle.acorn.specs.Table.{firstStep, rowOf}
 use Rattle.acorn.specs.declared.stretch.Stretch.the-variants.{TextEnd}
 use Rattle.acorn.proofs.StretchRuns.{state-none, state-all}
-use Rattle.acorn.proofs.ControlTable.{ca-of-row, cb-of-row}
+use Rattle.acorn.proofs.ControlTable.{stepsOf, ca-of-row, cb-of-row}
 use Rattle.acorn.proofs.FixedRuns.{end-more}
 use Rattle.acorn.proofs.end_text.Statement.{statement}
 use Rattle.acorn.proofs.end_text.Tie as tie
@@ -43,7 +43,7 @@ loop-less : tie.Need-loop-less Inv-loop μ-loop
 loop-less c = omega arith
 
 loop-again : tie.Need-loop-again Inv-loop μ-loop
-unfolding firstStep rowOf
+unfolding firstStep rowOf stepsOf
 loop-again c =
     let controlled = c .before .before in
     let worded = controlled .before in

@@ -57,7 +57,7 @@ loop-again c =
     let steps = c .before .together in (
       omega arith,
       omega arith,
-      final-more S (stateOf (v .t)) (stateOf (steps .result .state)) (2304 + v .n) (v .n) (steps .result .ks) (controls .result .ca) (controls .result .cb)
+      final-more S (stateOf (v .t)) (stateOf (steps .result .state)) (1050880 + v .n) (v .n) (steps .result .ks) (controls .result .ca) (controls .result .cb)
           (omega arith) (controls .ensures .caIs) (controls .ensures .cbIs) (v .inv .2) (steps .ensures),
     )
 
@@ -101,11 +101,11 @@ loop2-again c =
       omega arith,
       omega arith,
       store .kept .0 ∙ v .inv .3,
-      final-more T (stateOf (v .t)) (stateOf (steps .result .state)) (2304 + v .n) (8 * v .i) (steps .result .ks) (controls .result .ca) (controls .result .cb)
+      final-more T (stateOf (v .t)) (stateOf (steps .result .state)) (1050880 + v .n) (8 * v .i) (steps .result .ks) (controls .result .ca) (controls .result .cb)
           (omega arith) (controls .ensures .caIs) (controls .ensures .cbIs) (v .inv .4) (steps .ensures)
           ∙ ap (λ (q : ℕ). run (inputs final) q T) e,
       written-more (keystream final T) out₀ (v .out) (store .last .0) (v .i) 4 (steps .result .ks) (omega arith) (v .inv .5)
-          (final-ks T (stateOf (v .t)) (stateOf (steps .result .state)) (2304 + v .n) (8 * v .i) (steps .result .ks) (controls .result .ca) (controls .result .cb)
+          (final-ks T (stateOf (v .t)) (stateOf (steps .result .state)) (1050880 + v .n) (8 * v .i) (steps .result .ks) (controls .result .ca) (controls .result .cb)
           (omega arith) (controls .ensures .caIs) (controls .ensures .cbIs) (v .inv .4) (steps .ensures)) (store .ensures),
     )
 
