@@ -1,14 +1,15 @@
--- The stretch and the control bits of a step, by the range of its number; and the control bits of data and text.
+-- The stretch and the control bits of a step, by the range of its number.
 use mathlib.Core.Path.{_≡_, refl, sym, ap, _∙_}
 use mathlib.Core.Bool.{Bool}
 use mathlib.Core.List.{List}
-use Prim.Native.Nat.{ℕ, _+_, _-_, _≤_, _<_}
+use Prim.Native.Nat.{ℕ, _+_, _-_, _*_, _≤_, _<_}
 use native.Mathlib.Omega.{arith}
 use borrow.Author.Tests.{lt-ltb, le-ltb}
-use Rattle.acorn_model.specs.Stretches.{start, dataPiece, dataEnd, textPiece, textEnd}
+use Rattle.acorn_model.specs.Stretches.{start, dataPiece, dataEnd, textPiece, textEnd, final}
+use Rattle.acorn_model.specs.Machine.{byteLimit}
 use Rattle.acorn.specs.Table.{stretchAt, firstStep, rowOf, caAt, cbAt, ControlsAt}
 use Rattle.acorn.specs.declared.stretch.Stretch.{Stretch}
-use Rattle.acorn.specs.declared.stretch.Stretch.the-variants.{Start, DataEnd, TextEnd, Final}
+use Rattle.acorn.specs.declared.stretch.Stretch.the-variants.{Start, Data, DataEnd, Text, TextEnd, Final}
 
 -- ## The ranges
 
@@ -17,17 +18,25 @@ module _ (n : ℕ) where
   unfolding stretchAt
   in-start h = rw (lt-ltb n 1792 h)
 
-  pub in-data-end : 1792 ≤ n → n < 2048 → stretchAt n ≡ DataEnd
+  pub in-data : 1792 ≤ n → n < 526080 → stretchAt n ≡ Data
   unfolding stretchAt
-  in-data-end l h = rw (le-ltb n 1792 l, lt-ltb n 2048 h)
+  in-data l h = rw (le-ltb n 1792 l, lt-ltb n 526080 h)
 
-  pub in-text-end : 2048 ≤ n → n < 2304 → stretchAt n ≡ TextEnd
+  pub in-data-end : 526080 ≤ n → n < 526336 → stretchAt n ≡ DataEnd
   unfolding stretchAt
-  in-text-end l h = rw (le-ltb n 1792 (omega arith), le-ltb n 2048 l, lt-ltb n 2304 h)
+  in-data-end l h = rw (le-ltb n 1792 (omega arith), le-ltb n 526080 l, lt-ltb n 526336 h)
 
-  pub in-final : 2304 ≤ n → stretchAt n ≡ Final
+  pub in-text : 526336 ≤ n → n < 1050624 → stretchAt n ≡ Text
   unfolding stretchAt
-  in-final l = rw (le-ltb n 1792 (omega arith), le-ltb n 2048 (omega arith), le-ltb n 2304 l)
+  in-text l h = rw (le-ltb n 1792 (omega arith), le-ltb n 526080 (omega arith), le-ltb n 526336 l, lt-ltb n 1050624 h)
+
+  pub in-text-end : 1050624 ≤ n → n < 1050880 → stretchAt n ≡ TextEnd
+  unfolding stretchAt
+  in-text-end l h = rw (le-ltb n 1792 (omega arith), le-ltb n 526080 (omega arith), le-ltb n 526336 (omega arith), le-ltb n 1050624 l, lt-ltb n 1050880 h)
+
+  pub in-final : 1050880 ≤ n → stretchAt n ≡ Final
+  unfolding stretchAt
+  in-final l = rw (le-ltb n 1792 (omega arith), le-ltb n 526080 (omega arith), le-ltb n 526336 (omega arith), le-ltb n 1050624 (omega arith), le-ltb n 1050880 l)
 
   -- the control bits of a step whose stretch is known
   module _ (stretch : Stretch) (e : stretchAt n ≡ stretch) where
@@ -44,34 +53,49 @@ module _ (n : ℕ) where
 
 -- ## The rows in turn
 
--- step i of a stretch has the control bits of step i of its row
-module _ (i : ℕ) where
-  in-stretch : (stretch : Stretch) → i < rowOf stretch .steps → stretchAt (firstStep stretch + i) ≡ stretch
-  unfolding rowOf firstStep
-  in-stretch Start h = in-start (0 + i) (omega arith)
-  in-stretch DataEnd h = in-data-end (1792 + i) (omega arith) (omega arith)
-  in-stretch TextEnd h = in-text-end (2048 + i) (omega arith) (omega arith)
-  in-stretch Final h = in-final (2304 + i) (omega arith)
+-- the steps of each in the longest message
+unfoldable pub stepsOf : Stretch → ℕ
+stepsOf Start = 1792
+stepsOf Data = 524288
+stepsOf DataEnd = 256
+stepsOf Text = 524288
+stepsOf TextEnd = 256
+stepsOf Final = 768
 
-  pub ca-of-row : (stretch : Stretch) → i < rowOf stretch .steps → caAt (firstStep stretch + i) ≡ rowOf stretch .ca i
-  ca-of-row stretch h = ca-in (firstStep stretch + i) stretch (in-stretch stretch h) ∙ ap (rowOf stretch .ca) (omega arith)
-
-  pub cb-of-row : (stretch : Stretch) → i < rowOf stretch .steps → cbAt (firstStep stretch + i) ≡ rowOf stretch .cb
-  cb-of-row stretch h = cb-in (firstStep stretch + i) stretch (in-stretch stretch h)
-
--- ## The first steps
+-- they are those of the table, with as many bytes as the limit allows
+pub steps-of-rows : (key nonce : List ℕ) → (stepsOf Start ≡ start key nonce .steps) × (stepsOf Data ≡ 8 * byteLimit) × (stepsOf DataEnd ≡ dataEnd .steps) × (stepsOf Text ≡ 8 * byteLimit)
+    × (stepsOf TextEnd ≡ textEnd .steps) × (stepsOf Final ≡ final .steps)
+unfolding stepsOf
+steps-of-rows key nonce = (refl, refl, refl, refl, refl, refl)
 
 -- each stretch begins where the one before it has run its steps
-pub first-steps : (key nonce : List ℕ) → (firstStep DataEnd ≡ firstStep Start + start key nonce .steps) × (firstStep TextEnd ≡ firstStep DataEnd + dataEnd .steps)
-    × (firstStep Final ≡ firstStep TextEnd + textEnd .steps)
-unfolding firstStep
-first-steps key nonce = (refl, refl, refl)
+pub first-steps : (firstStep Start ≡ 0) × (firstStep Data ≡ firstStep Start + stepsOf Start) × (firstStep DataEnd ≡ firstStep Data + stepsOf Data) × (firstStep Text ≡ firstStep DataEnd + stepsOf DataEnd)
+    × (firstStep TextEnd ≡ firstStep Text + stepsOf Text) × (firstStep Final ≡ firstStep TextEnd + stepsOf TextEnd)
+unfolding firstStep stepsOf
+first-steps = (refl, refl, refl, refl, refl, refl)
 
--- data has the control bits of the step that follows it, the first of data end; and text those of the first of text end
-pub data-controls : (piece : List ℕ) (i : ℕ) → (dataPiece piece .ca i ≡ caAt (firstStep DataEnd)) × (dataPiece piece .cb ≡ cbAt (firstStep DataEnd))
-unfolding caAt cbAt stretchAt firstStep rowOf
-data-controls piece i = (refl, refl)
+-- step i of a stretch has the control bits of step i of its row
+module _ (i : ℕ) where
+  in-stretch : (stretch : Stretch) → i < stepsOf stretch → stretchAt (firstStep stretch + i) ≡ stretch
+  unfolding stepsOf firstStep
+  in-stretch Start h = in-start (0 + i) (omega arith)
+  in-stretch Data h = in-data (1792 + i) (omega arith) (omega arith)
+  in-stretch DataEnd h = in-data-end (526080 + i) (omega arith) (omega arith)
+  in-stretch Text h = in-text (526336 + i) (omega arith) (omega arith)
+  in-stretch TextEnd h = in-text-end (1050624 + i) (omega arith) (omega arith)
+  in-stretch Final h = in-final (1050880 + i) (omega arith)
 
-pub text-controls : (opening : Bool) (piece : List ℕ) (i : ℕ) → (textPiece opening piece .ca i ≡ caAt (firstStep TextEnd)) × (textPiece opening piece .cb ≡ cbAt (firstStep TextEnd))
-unfolding caAt cbAt stretchAt firstStep rowOf
-text-controls opening piece i = (refl, refl)
+  pub ca-of-row : (stretch : Stretch) → i < stepsOf stretch → caAt (firstStep stretch + i) ≡ rowOf stretch .ca i
+  ca-of-row stretch h = ca-in (firstStep stretch + i) stretch (in-stretch stretch h) ∙ ap (rowOf stretch .ca) (omega arith)
+
+  pub cb-of-row : (stretch : Stretch) → i < stepsOf stretch → cbAt (firstStep stretch + i) ≡ rowOf stretch .cb
+  cb-of-row stretch h = cb-in (firstStep stretch + i) stretch (in-stretch stretch h)
+
+-- data has at every step the control bits of its first, whatever the piece; and so has text
+pub data-controls : (piece : List ℕ) (i : ℕ) → (caAt (firstStep Data) ≡ dataPiece piece .ca i) × (cbAt (firstStep Data) ≡ dataPiece piece .cb)
+unfolding firstStep stepsOf rowOf
+data-controls piece i = (ca-of-row 0 Data (omega arith), cb-of-row 0 Data (omega arith))
+
+pub text-controls : (opening : Bool) (piece : List ℕ) (i : ℕ) → (caAt (firstStep Text) ≡ textPiece opening piece .ca i) × (cbAt (firstStep Text) ≡ textPiece opening piece .cb)
+unfolding firstStep stepsOf rowOf
+text-controls opening piece i = (ca-of-row 0 Text (omega arith), cb-of-row 0 Text (omega arith))

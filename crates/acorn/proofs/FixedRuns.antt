@@ -12,14 +12,14 @@ use Rattle.acorn_model.specs.Bits.{Bits, _⊕_, bit, bitsIn}
 use Rattle.acorn_model.specs.Step.{StepInput, run, keystreamBit}
 use Rattle.acorn_model.specs.Stretches.{Stretch, inputs, through, keystream, zeros, start, startBit, final, tagOf, tagLength}
 use Rattle.acorn_model.specs.Calls.{writtenOver}
-use Rattle.acorn.specs.Together.{inputsFrom, Together}
+use Rattle.acorn_kernel.specs.Together.{inputsFrom, Together}
 use Rattle.acorn.specs.Runs.{startState, tagOutput}
 use Rattle.acorn.specs.Table.{caAt, cbAt, rowOf}
 use Rattle.acorn.specs.declared.stretch.Stretch.the-variants.{Start, Final}
 use Rattle.acorn_model.proofs.Numbers.{lt-or-ge}
 use Rattle.acorn_model.proofs.Runs.{run-add}
 use Rattle.acorn_model.proofs.Bytes.{bytes-length, bytes-same}
-use Rattle.acorn.proofs.WordBits.{bit-above, bit-zero}
+use Rattle.acorn_kernel.proofs.WordBits.{bit-above, bit-zero}
 use Rattle.acorn.proofs.StretchRuns.{state-more, ks-more, Written, written-all}
 use Rattle.acorn.proofs.ControlTable.{in-start, in-final, ca-in, cb-in}
 
@@ -59,7 +59,7 @@ pub start-more : (key nonce : List ℕ) (S T T' : Bits) (n x z : ℕ) (ca cb : B
     → ((i : ℕ) → i < 32 → bit x i ≡ startBit key nonce (n + i)) → Together T x false ca cb 32 T' z → T' ≡ run (inputs (start key nonce)) (n + 32) S
 unfolding rowOf
 start-more key nonce S T T' n x z ca cb h ea eb reached bits steps =
-    state-more (start key nonce) S T T' n 32 x z false ca cb reached
+    state-more (start key nonce) S T T' n 32 x z (omega arith) false ca cb reached
     (λ i l. ap₂ (λ (a b : Bool). input a b (bit x i)) (ea ∙ ca-in n Start (in-start n h)) (eb ∙ cb-in n Start (in-start n h)) ∙ ap (input true true) (bits i l)) steps
 
 -- a key or a nonce of another size runs no step
@@ -99,7 +99,7 @@ endRow cb = record { steps = 256; m = λ i ks. eqb i 0; ca = λ i. ltb i 128; cb
 pub end-more : (end : Bool) (S T T' : Bits) (n x z : ℕ) (ca cb : Bool) → n < 256 → n % 32 ≡ 0 → ca ≡ ltb n 128 → cb ≡ end → T ≡ run (inputs (endRow end)) n S
     → ((i : ℕ) → bit x i ≡ eqb (n + i) 0) → Together T x false ca cb 32 T' z → T' ≡ run (inputs (endRow end)) (n + 32) S
 end-more end S T T' n x z ca cb h d ea eb reached bits steps =
-    state-more (endRow end) S T T' n 32 x z false ca cb reached
+    state-more (endRow end) S T T' n 32 x z (omega arith) false ca cb reached
     (λ i l. ap₂ (λ (a b : Bool). input a b (bit x i)) (ea ∙ steady i l) eb ∙ ap (input (ltb (n + i) 128) end) (bits i)) steps
   where
     steady : (i : ℕ) → i < 32 → ltb n 128 ≡ ltb (n + i) 128
@@ -107,17 +107,17 @@ end-more end S T T' n x z ca cb h d ea eb reached bits steps =
 
 -- ## Final
 
-module _ (S T T' : Bits) (step n z : ℕ) (ca cb : Bool) (h : 2304 ≤ step) (ea : ca ≡ caAt step) (eb : cb ≡ cbAt step) (reached : T ≡ run (inputs final) n S)
+module _ (S T T' : Bits) (step n z : ℕ) (ca cb : Bool) (h : 1050880 ≤ step) (ea : ca ≡ caAt step) (eb : cb ≡ cbAt step) (reached : T ≡ run (inputs final) n S)
     (steps : Together T 0 false ca cb 32 T' z) where
   same : (i : ℕ) → i < 32 → inputsFrom false ca cb (bit 0) i ≡ inputs final (n + i)
   unfolding rowOf
   same i l = ap₂ (λ (a b : Bool). input a b (bit 0 i)) (ea ∙ ca-in step Final (in-final step h)) (eb ∙ cb-in step Final (in-final step h)) ∙ ap (input true true) (bit-zero i)
 
   pub final-more : T' ≡ run (inputs final) (n + 32) S
-  final-more = state-more final S T T' n 32 0 z false ca cb reached same steps
+  final-more = state-more final S T T' n 32 0 z (omega arith) false ca cb reached same steps
 
   pub final-ks : (q : ℕ) → q < 32 → bit z q ≡ keystream final S (n + q)
-  final-ks = ks-more final S T T' n 32 0 z false ca cb reached same steps
+  final-ks = ks-more final S T T' n 32 0 z (omega arith) false ca cb reached same steps
 
 -- the last 16 bytes of the ks of final
 pub tag-all : (S T : Bits) (out₀ out : List ℕ) → T ≡ run (inputs final) 640 S → tagLength ≤ length out₀ → Written (keystream final T) out₀ 16 out → out ≡ tagOutput S out₀

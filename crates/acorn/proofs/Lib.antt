@@ -1,13 +1,6 @@
 -- The laws that the proofs of the functions cite.
-pub mod Sequences
-pub mod ClosedForm
-pub mod WordBits
-pub mod ShiftedBits
-pub mod StateWords
-pub mod StepWords
-pub mod TogetherSteps
 pub mod Strings
-pub mod StretchRuns
 pub mod ControlTable
+pub mod StretchRuns
 pub mod FixedRuns
 pub mod Callers

@@ -1,3 +1,2 @@
-pub mod Together
 pub mod Runs
 pub mod Table

@@ -1,29 +1,39 @@
--- The control bits by step number: the steps of a message without data and text, numbered from the first of start.
+-- The control bits by step number: the steps of the longest message, whose data and text have 65,536 bytes, numbered from the first of start.
 use mathlib.Core.Path.{_≡_}
-use mathlib.Core.Bool.{Bool}
+use mathlib.Core.Bool.{Bool, false}
 use mathlib.Core.List.{[]}
 use Prim.Native.Nat.{ℕ, _-_}
 use lib.Dec.{ltb}
 use Rattle.acorn_model.specs.Bits.{_if_else_}
-use Rattle.acorn_model.specs.Stretches.{start, dataEnd, textEnd, final}
+use Rattle.acorn_model.specs.Stretches.{start, dataPiece, dataEnd, textPiece, textEnd, final}
 use Rattle.acorn_model.specs.Stretches as rows
 use Rattle.acorn.specs.declared.stretch.Stretch.{Stretch}
-use Rattle.acorn.specs.declared.stretch.Stretch.the-variants.{Start, DataEnd, TextEnd, Final}
+use Rattle.acorn.specs.declared.stretch.Stretch.the-variants.{Start, Data, DataEnd, Text, TextEnd, Final}
 
 -- the stretch of step n; final has no end here
 unfoldable pub stretchAt : ℕ → Stretch
-stretchAt n = Start if ltb n 1792 else DataEnd if ltb n 2048 else TextEnd if ltb n 2304 else Final
+stretchAt n =
+    Start if ltb n 1792 else
+    Data if ltb n 526080 else
+    DataEnd if ltb n 526336 else
+    Text if ltb n 1050624 else
+    TextEnd if ltb n 1050880 else
+    Final
 
--- its first step, and its row in the table; the control bits of start do not go by key and nonce
+-- its first step, and its row in the table; the control bits of start do not go by key and nonce, nor those of data and text by the piece
 unfoldable pub firstStep : Stretch → ℕ
 firstStep Start = 0
-firstStep DataEnd = 1792
-firstStep TextEnd = 2048
-firstStep Final = 2304
+firstStep Data = 1792
+firstStep DataEnd = 526080
+firstStep Text = 526336
+firstStep TextEnd = 1050624
+firstStep Final = 1050880
 
 unfoldable pub rowOf : Stretch → rows.Stretch
 rowOf Start = start [] []
+rowOf Data = dataPiece []
 rowOf DataEnd = dataEnd
+rowOf Text = textPiece false []
 rowOf TextEnd = textEnd
 rowOf Final = final
 

@@ -1,39 +1,32 @@
-// ACORN-128 v3 on words: up to 32 steps together, and the runs over data, text and the fixed stretches.
+// ACORN-128 v3 on words: the runs over data, text and the fixed stretches.
 mod bytes;
-mod kernel;
 pub mod stretch;
-mod word;
 
+pub use acorn_kernel::State;
+use acorn_kernel::together;
+pub use acorn_kernel::zeros;
 use bytes::load_rest;
 use bytes::load_word;
 use bytes::store_rest;
 use bytes::store_word;
-use kernel::together;
+use stretch::DATA;
 use stretch::DATA_END;
 use stretch::FINAL;
+use stretch::TEXT;
 use stretch::TEXT_END;
+use stretch::ca_at;
+use stretch::cb_at;
 use stretch::controls_at;
 use stretch::key_again;
 use stretch::leading_one;
 ghost use mathlib.Core.Path.{_≡_};
 ghost use mathlib.Core.Bool.{false, true};
-ghost use Rattle.acorn_model.specs.Stretches.{zeros as allZeros, through, dataPiece, dataEnd, textPiece, textEnd, tagOf};
-ghost use Rattle.acorn.specs.Together.{stateOf};
+ghost use Rattle.acorn_model.specs.Stretches.{through, dataPiece, dataEnd, textPiece, textEnd, tagOf};
+ghost use Rattle.acorn_kernel.specs.Together.{stateOf};
 ghost use Rattle.acorn.specs.Runs.{TextRun, startState, tagOutput};
 
-// The 293 bits in six words: S0 to S60, S61 to S106, S107 to S153, S154 to S192, S193 to S229, S230 to S292.
-// Each has the highest places of its word; the bits below are of no account.
-pub struct State {
-    pub w0: u64,
-    pub w1: u64,
-    pub w2: u64,
-    pub w3: u64,
-    pub w4: u64,
-    pub w5: u64,
-}
-
-// Each run over a piece goes 32 steps at a time while as many are left, and then takes the rest at once. Its control bits are literals,
-// those of the rows of text and data; the laws `data-controls` and `text-controls` tie them to `controls_at`.
+// Each run over a piece goes 32 steps at a time while as many are left, and then takes the rest at once. All steps of data have the control
+// bits of its first, and those of text too.
 
 // Plain text is encrypted into out, where out has room for it; else nothing is done.
 pub fn seal_text(s: State, piece: &[u8], out: &mut [u8]) -> State
@@ -42,12 +35,14 @@ pub fn seal_text(s: State, piece: &[u8], out: &mut [u8]) -> State
     if out.len() < piece.len() {
         return s;
     }
+    let ca = ca_at(TEXT);
+    let cb = cb_at(TEXT);
     let mut t = s;
     let mut i = 0;
     let whole = piece.len() - piece.len() % 4;
     while i < whole {
         let x = load_word(piece, i);
-        let m = together(t, x, false, true, false, 32);
+        let m = together(t, x, false, ca, cb, 32);
         store_word(out, i, x ^ m.ks);
         let next = m.state;
         t = next;
@@ -56,7 +51,7 @@ pub fn seal_text(s: State, piece: &[u8], out: &mut [u8]) -> State
     if i < piece.len() {
         let k = piece.len() - i;
         let x = load_rest(piece, i, k);
-        let m = together(t, x, false, true, false, (8 * k) as u64);
+        let m = together(t, x, false, ca, cb, (8 * k) as u64);
         store_rest(out, i, k, x ^ m.ks);
         let next = m.state;
         t = next;
@@ -71,12 +66,14 @@ pub fn decrypt(s: State, piece: &[u8], out: &mut [u8]) -> State
     if out.len() < piece.len() {
         return s;
     }
+    let ca = ca_at(TEXT);
+    let cb = cb_at(TEXT);
     let mut t = s;
     let mut i = 0;
     let whole = piece.len() - piece.len() % 4;
     while i < whole {
         let x = load_word(piece, i);
-        let m = together(t, x, true, true, false, 32);
+        let m = together(t, x, true, ca, cb, 32);
         store_word(out, i, x ^ m.ks);
         let next = m.state;
         t = next;
@@ -85,7 +82,7 @@ pub fn decrypt(s: State, piece: &[u8], out: &mut [u8]) -> State
     if i < piece.len() {
         let k = piece.len() - i;
         let x = load_rest(piece, i, k);
-        let m = together(t, x, true, true, false, (8 * k) as u64);
+        let m = together(t, x, true, ca, cb, (8 * k) as u64);
         store_rest(out, i, k, x ^ m.ks);
         let next = m.state;
         t = next;
@@ -97,12 +94,14 @@ pub fn decrypt(s: State, piece: &[u8], out: &mut [u8]) -> State
 pub fn absorb_data(s: State, piece: &[u8]) -> State
     ensures { λ r. ⌜ stateOf r ≡ through (dataPiece (now (piece .entry))) (stateOf s) ⌝ }
 {
+    let ca = ca_at(DATA);
+    let cb = cb_at(DATA);
     let mut t = s;
     let mut i = 0;
     let whole = piece.len() - piece.len() % 4;
     while i < whole {
         let x = load_word(piece, i);
-        let m = together(t, x, false, true, true, 32);
+        let m = together(t, x, false, ca, cb, 32);
         let next = m.state;
         t = next;
         i += 4;
@@ -110,7 +109,7 @@ pub fn absorb_data(s: State, piece: &[u8]) -> State
     if i < piece.len() {
         let k = piece.len() - i;
         let x = load_rest(piece, i, k);
-        let m = together(t, x, false, true, true, (8 * k) as u64);
+        let m = together(t, x, false, ca, cb, (8 * k) as u64);
         let next = m.state;
         t = next;
     }
@@ -121,12 +120,14 @@ pub fn absorb_data(s: State, piece: &[u8]) -> State
 pub fn check_text(s: State, piece: &[u8]) -> State
     ensures { λ r. ⌜ stateOf r ≡ through (textPiece true (now (piece .entry))) (stateOf s) ⌝ }
 {
+    let ca = ca_at(TEXT);
+    let cb = cb_at(TEXT);
     let mut t = s;
     let mut i = 0;
     let whole = piece.len() - piece.len() % 4;
     while i < whole {
         let x = load_word(piece, i);
-        let m = together(t, x, true, true, false, 32);
+        let m = together(t, x, true, ca, cb, 32);
         let next = m.state;
         t = next;
         i += 4;
@@ -134,25 +135,11 @@ pub fn check_text(s: State, piece: &[u8]) -> State
     if i < piece.len() {
         let k = piece.len() - i;
         let x = load_rest(piece, i, k);
-        let m = together(t, x, true, true, false, (8 * k) as u64);
+        let m = together(t, x, true, ca, cb, (8 * k) as u64);
         let next = m.state;
         t = next;
     }
     t
-}
-
-// The state of all zeros.
-pub fn zeros() -> State
-    ensures { λ r. ⌜ stateOf r ≡ allZeros ⌝ }
-{
-    State {
-        w0: 0,
-        w1: 0,
-        w2: 0,
-        w3: 0,
-        w4: 0,
-        w5: 0,
-    }
 }
 
 // Start, from all zeros, of a key and a nonce of 16 bytes; of others the state stays all zeros.

@@ -1,4 +1,5 @@
-// The stretches whose number of steps is fixed: their control bits, which follow from the stretch that a step lies in, and their message bits.
+// The six stretches: their control bits, which follow from the stretch that a step lies in; and the message bits of those whose number of steps
+// is fixed.
 use super::bytes::load_word;
 ghost use mathlib.Core.Path.{_≡_};
 ghost use mathlib.Core.List.{List};
@@ -7,22 +8,28 @@ ghost use lib.Dec.{eqb};
 ghost use lib.ListN.{length};
 ghost use Rattle.acorn_model.specs.Bits.{bit};
 ghost use Rattle.acorn_model.specs.Stretches.{startBit};
-ghost use Rattle.acorn.specs.Table.{ControlsAt};
+ghost use Rattle.acorn.specs.Table.{caAt, cbAt, ControlsAt};
 
-// Data lies between start and data end, and text between data end and text end; each has the control bits of the step that follows it.
 pub enum Stretch {
     Start,
+    Data,
     DataEnd,
+    Text,
     TextEnd,
     Final,
 }
 
-// The number of the first step of each but start, whose first is 0.
-pub const DATA_END: u64 = 1792;
+// The number of the first step of each but start, whose first is 0, in the longest message: data and text have 65,536 bytes. In a shorter one
+// each stretch has the first numbers of its own.
+pub const DATA: u64 = 1792;
 
-pub const TEXT_END: u64 = 2048;
+pub const DATA_END: u64 = 526080;
 
-pub const FINAL: u64 = 2304;
+pub const TEXT: u64 = 526336;
+
+pub const TEXT_END: u64 = 1050624;
+
+pub const FINAL: u64 = 1050880;
 
 pub struct Controls {
     pub stretch: Stretch,
@@ -36,18 +43,35 @@ fn row(stretch: Stretch, ca: bool, cb: bool) -> Controls
     Controls { stretch, ca, cb }
 }
 
-// The stretch and the control bits of a step, by its number in a message without data and text: 0 to 3071.
+// The stretch and the control bits of a step, by its number in the longest message: 0 to 1,051,647.
 pub fn controls_at(step: u64) -> Controls
     ensures { λ r. ⌜ ControlsAt step (r .stretch) (r .ca) (r .cb) ⌝ }
 {
     match step {
         0..=1791 => row(Stretch::Start, true, true),
-        1792..=1919 => row(Stretch::DataEnd, true, true),
-        1920..=2047 => row(Stretch::DataEnd, false, true),
-        2048..=2175 => row(Stretch::TextEnd, true, false),
-        2176..=2303 => row(Stretch::TextEnd, false, false),
+        1792..=526079 => row(Stretch::Data, true, true),
+        526080..=526207 => row(Stretch::DataEnd, true, true),
+        526208..=526335 => row(Stretch::DataEnd, false, true),
+        526336..=1050623 => row(Stretch::Text, true, false),
+        1050624..=1050751 => row(Stretch::TextEnd, true, false),
+        1050752..=1050879 => row(Stretch::TextEnd, false, false),
         _ => row(Stretch::Final, true, true),
     }
+}
+
+// Each of them by itself. Of a literal step it folds where it is called, so that the steps together fold with it.
+pub(crate) fn ca_at(step: u64) -> bool
+    ensures { λ r. ⌜ r ≡ caAt step ⌝ }
+{
+    let c = controls_at(step);
+    c.ca
+}
+
+pub(crate) fn cb_at(step: u64) -> bool
+    ensures { λ r. ⌜ r ≡ cbAt step ⌝ }
+{
+    let c = controls_at(step);
+    c.cb
 }
 
 // The message bits of an end from its step n on: 1, then zeros.

@@ -12,7 +12,7 @@ use Rattle.acorn_model.specs.Machine.{Machine, Call, begin, dataCall, sealText,
 use Rattle.acorn_model.specs.Machine.{runThrough, enter, cleared, countData, countText, begun, dataTaken, dataEnded, textTaken, closed, wrote, work, call}
 use Rattle.tape_model.specs.Writer.{PlainWriter, WriterCall, start, add, finish, onAnswer, passedOn, started, writerCall}
 use Rattle.tape_model.specs.Writer as plain
-use Rattle.acorn.proofs.ClosedForm.{run-above}
+use Rattle.acorn_kernel.proofs.ClosedForm.{run-above}
 use Rattle.acorn_model.proofs.Refusals.{by-number}
 use Rattle.session.specs.Words.{sessionFor}
 use Rattle.session.proofs.WordsBack.{Clear, session-stands}

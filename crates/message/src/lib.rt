@@ -16,7 +16,7 @@ ghost use Rattle.acorn_model.specs.Stretches.{tagLength, afterData};
 ghost use Rattle.acorn_model.specs.Calls.{writtenReply, unlessRefused, sameBytes};
 ghost use Rattle.acorn_model.specs.Machine.{keyAndNonceRight};
 ghost use Rattle.acorn_model.specs.Message.{sealRefusal, sealMessage, tagRefusal, openRefusal, openMessage};
-ghost use Rattle.acorn.specs.Together.{stateOf};
+ghost use Rattle.acorn_kernel.specs.Together.{stateOf};
 
 fn sizes_right(key: &[u8], nonce: &[u8]) -> bool
     ensures { λ r. ⌜ r ≡ keyAndNonceRight (now (key .entry)) (now (nonce .entry)) ⌝ }

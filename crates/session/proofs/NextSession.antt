@@ -14,8 +14,8 @@ use Rattle.acorn_model.specs.Bits.{Bits, _if_else_}
 use Rattle.acorn_model.specs.Stretches.{through, zeros, dataEnd, textPiece, textEnd, final, textOut}
 use Rattle.acorn_model.specs.Calls.{writtenOver}
 use Rattle.acorn_model.specs.Machine.{Machine, isSealing, isChecking, isData, runThrough, enter, cleared, countText, dataEnded, textTaken, textEnded, closed}
-use Rattle.acorn.specs.declared.State.{State}
-use Rattle.acorn.specs.Together.{stateOf}
+use Rattle.acorn_kernel.specs.declared.State.{State}
+use Rattle.acorn_kernel.specs.Together.{stateOf}
 use Rattle.session.specs.declared.Session.{Session}
 use Rattle.session.specs.Contracts.{machineOf, wrapped, wrappedMachine, endedState, endedSteps}
 

@@ -12,8 +12,8 @@ use Rattle.acorn_model.specs.declared.Phase.the-variants.{Fresh, Data, Text, Cl
 use Rattle.acorn_model.specs.Bits.{Bits, bit, number}
 use Rattle.acorn_model.specs.Machine.{Machine}
 use Rattle.acorn_model.proofs.Numbers.{number-of, number-same, number-bit}
-use Rattle.acorn.specs.Together.{stateOf}
-use Rattle.acorn.proofs.StateWords.{at0, at1, at2, at3, at4, at5, at-above, state-is}
+use Rattle.acorn_kernel.specs.Together.{stateOf}
+use Rattle.acorn_kernel.proofs.StateWords.{at0, at1, at2, at3, at4, at5, at-above, state-is}
 use Rattle.session.specs.declared.Session.{Session}
 use Rattle.session.specs.Contracts.{machineOf}
 use Rattle.session.specs.Words.{numberOf, kindIn, phaseIn, wordsOf, sessionIn, machineIn, stateFor, sessionFor, wordsFor}

@@ -9,8 +9,8 @@ use Rattle.acorn_model.specs.Bits.{Bits, _if_else_}
 use Rattle.acorn_model.specs.Stretches.{through, dataEnd}
 use Rattle.acorn_model.specs.Calls.{Reply, refused, done, Work, accepted, Outcome, answerReply}
 use Rattle.acorn_model.specs.Machine.{Machine, Call, isData, textTaken, call}
-use Rattle.acorn.specs.declared.State.{State}
-use Rattle.acorn.specs.Together.{stateOf}
+use Rattle.acorn_kernel.specs.declared.State.{State}
+use Rattle.acorn_kernel.specs.Together.{stateOf}
 use Rattle.session.specs.declared.Session.{Session}
 use Rattle.session.specs.declared.Reply.{Reply as SessionReply}
 

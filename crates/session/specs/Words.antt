@@ -10,7 +10,7 @@ use Rattle.acorn_model.specs.declared.Phase.{Phase}
 use Rattle.acorn_model.specs.declared.Phase.the-variants.{Fresh, Data, Text, Closed}
 use Rattle.acorn_model.specs.Bits.{Bits, _if_else_, number}
 use Rattle.acorn_model.specs.Machine.{Machine}
-use Rattle.acorn.specs.declared.State.{State}
+use Rattle.acorn_kernel.specs.declared.State.{State}
 use Rattle.session.specs.declared.Session.{Session}
 use Rattle.session.specs.Contracts.{machineOf}
 

@@ -8,7 +8,7 @@ use acorn_model::Phase;
 ghost use mathlib.Core.Path.{_≡_};
 ghost use mathlib.Core.Bool.{true};
 ghost use Rattle.acorn_model.specs.Stretches.{through, textPiece, textEnd};
-ghost use Rattle.acorn.specs.Together.{stateOf};
+ghost use Rattle.acorn_kernel.specs.Together.{stateOf};
 ghost use Rattle.session.specs.Contracts.{endedState, endedSteps};
 
 // The same state, taken word by word. A state that is taken whole goes by two words at a time, and waits where a run has just stored

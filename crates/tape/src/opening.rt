@@ -19,7 +19,7 @@ ghost use Rattle.acorn_model.specs.Stretches.{tagLength, afterData};
 ghost use Rattle.acorn_model.specs.Calls.{unlessRefused};
 ghost use Rattle.acorn_model.specs.Machine.{keyLength};
 ghost use Rattle.acorn_model.specs.Message.{tagMatches, opened};
-ghost use Rattle.acorn.specs.Together.{stateOf};
+ghost use Rattle.acorn_kernel.specs.Together.{stateOf};
 ghost use Rattle.tape_model.specs.Ticket.{headLength, unpackHead};
 ghost use Rattle.tape_model.specs.Tape.{nonceOf, isRefused, emptyTapeLength, tapeLength, openRefusal, openTape, openedReply};
 ghost use Rattle.tape.specs.Contracts.{textRefusal};

@@ -3,21 +3,29 @@ use mathlib.Core.Path.{_≡_, refl, _∙_}
 use mathlib.Core.Bool.{true}
 use Prim.Native.Nat.{_≤_, _+_, _-_, _%_}
 use native.Mathlib.Omega.{arith}
+use borrow.Author.Needs.{needs}
 use lib.ListN.{length}
-use Rattle.acorn.specs.Together.{stateOf}
+use Rattle.acorn_kernel.specs.Together.{stateOf}
+use Rattle.acorn.specs.Table.{firstStep}
 use Rattle.acorn.proofs.StretchRuns.{TextUpTo, text-none, text-further, text-all, text-refused}
 use Rattle.acorn.proofs.decrypt.Statement.{statement}
 use Rattle.acorn.proofs.decrypt.Tie as tie
 
 abbrev Inv-loop : tie.InvT-loop
-Inv-loop piece out₀ t₀ i₀ whole out t i =
+Inv-loop piece out₀ ca cb t₀ i₀ whole out t i =
     (whole ≡ length piece - length piece % 4) × (i % 4 ≡ 0) × (i ≤ whole) × (length out ≡ length out₀) × TextUpTo true (stateOf t₀) piece out₀ i (stateOf t) out
 
 abbrev μ-loop : tie.MeasureT-loop
-μ-loop piece out₀ t₀ i₀ whole out t i = whole - i
+μ-loop piece out₀ ca cb t₀ i₀ whole out t i = whole - i
 
 returns : tie.Need-returns Inv-loop μ-loop
 returns c = let a = c .before .before .before .args in text-refused true (stateOf (a .s)) (a .piece .now) (a .out .now) (omega arith)
+
+ca-at-requires : tie.Need-ca-at-requires Inv-loop μ-loop
+ca-at-requires c κs = search needs
+
+cb-at-requires : tie.Need-cb-at-requires Inv-loop μ-loop
+cb-at-requires c κs = search needs
 
 sub-whole : tie.Need-sub-whole Inv-loop μ-loop
 sub-whole c = omega arith
@@ -29,7 +37,7 @@ load-word-requires : tie.Need-load-word-requires Inv-loop μ-loop
 load-word-requires c κs = omega arith
 
 together-requires : tie.Need-together-requires Inv-loop μ-loop
-together-requires c κs = omega arith
+together-requires c κs = search needs
 
 store-word-requires : tie.Need-store-word-requires Inv-loop μ-loop
 store-word-requires c κs = omega arith
@@ -41,13 +49,17 @@ loop-less : tie.Need-loop-less Inv-loop μ-loop
 loop-less c = omega arith
 
 loop-again : tie.Need-loop-again Inv-loop μ-loop
+unfolding firstStep
 loop-again c =
     let stored = c .before .before .before in
     let stepped = stored .before .before .before in
     let loaded = stepped .before in
     let v = loaded .before .before .loop in
-    let a = loaded .before .before .before .before .before .before .args in
+    let controlled = loaded .before .before .before in
+    let a = controlled .before .before .before .before .before .args in
     let word = loaded .load-word in
+    let ca = controlled .before .ca-at in
+    let cb = controlled .cb-at in
     let run = stepped .together in
     let store = stored .store-word in (
       v .inv .0,
@@ -55,7 +67,7 @@ loop-again c =
       omega arith,
       store .kept .0 ∙ v .inv .3,
       text-further true (stateOf (a .s)) (a .piece .now) (a .out .now) (v .i) 4 (word .result) (run .result .ks) (stateOf (v .t)) (stateOf (run .result .state)) (v .out) (store .last .0)
-          (omega arith) (v .inv .4) (word .ensures) (run .ensures) (store .ensures),
+          (ca .result) (cb .result) (omega arith) (ca .ensures) (cb .ensures) (v .inv .4) (word .ensures) (run .ensures) (store .ensures),
     )
 
 sub-k : tie.Need-sub-k Inv-loop μ-loop
@@ -68,7 +80,7 @@ mul-together : tie.Need-mul-together Inv-loop μ-loop
 mul-together c = omega arith
 
 together-requires-2 : tie.Need-together-requires-2 Inv-loop μ-loop
-together-requires-2 c κs = omega arith
+together-requires-2 c κs = search needs
 
 store-rest-requires : tie.Need-store-rest-requires Inv-loop μ-loop
 store-rest-requires c κs = omega arith
@@ -77,19 +89,23 @@ same-length : tie.Need-same-length Inv-loop μ-loop
 same-length c = let stored = c .before .before .before in stored .store-rest .kept .0 ∙ stored .before .before .before .before .before .before .before .loop .inv .3
 
 returns-2 : tie.Need-returns-2 Inv-loop μ-loop
+unfolding firstStep
 returns-2 c =
     let stored = c .before .before .before in
     let stepped = stored .before .before .before in
     let loaded = stepped .before in
     let v = loaded .before .before .before .loop in
-    let a = loaded .before .before .before .before .before .before .before .args in
+    let controlled = loaded .before .before .before .before in
+    let a = controlled .before .before .before .before .before .args in
     let word = loaded .load-rest in
+    let ca = controlled .before .ca-at in
+    let cb = controlled .cb-at in
     let run = stepped .together2 in
     let store = stored .store-rest in
     let k = length (a .piece .now) - v .i in
     text-all true (stateOf (a .s)) (a .piece .now) (a .out .now) (v .i + k) (stateOf (run .result .state)) (store .last .0) (omega arith) (omega arith)
     (text-further true (stateOf (a .s)) (a .piece .now) (a .out .now) (v .i) k (word .result) (run .result .ks) (stateOf (v .t)) (stateOf (run .result .state)) (v .out) (store .last .0)
-    (omega arith) (v .inv .4) (word .ensures) (run .ensures) (store .ensures))
+    (ca .result) (cb .result) (omega arith) (ca .ensures) (cb .ensures) (v .inv .4) (word .ensures) (run .ensures) (store .ensures))
 
 same-length-2 : tie.Need-same-length-2 Inv-loop μ-loop
 same-length-2 c = c .before .before .loop .inv .3
@@ -97,7 +113,7 @@ same-length-2 c = c .before .before .loop .inv .3
 returns-3 : tie.Need-returns-3 Inv-loop μ-loop
 returns-3 c =
     let v = c .before .before .loop in
-    let a = c .before .before .before .before .before .before .args in
+    let a = c .before .before .before .before .before .before .before .before .args in
     text-all true (stateOf (a .s)) (a .piece .now) (a .out .now) (v .i) (stateOf (v .t)) (v .out) (omega arith) (omega arith) (v .inv .4)
 
 pub decrypt-spec : {M : Type 1} → statement M
@@ -107,6 +123,8 @@ decrypt-spec =
     Inv-loop
     μ-loop
     returns
+    ca-at-requires
+    cb-at-requires
     sub-whole
     loop-holds
     load-word-requires

@@ -6,11 +6,11 @@ use native.Mathlib.Omega.{arith}
 use borrow.Author.Needs.{needs}
 use Rattle.acorn_model.specs.Step.{run}
 use Rattle.acorn_model.specs.Stretches.{inputs, dataEnd}
-use Rattle.acorn.specs.Together.{stateOf}
+use Rattle.acorn_kernel.specs.Together.{stateOf}
 use Rattle.acorn.specs.Table.{firstStep, rowOf}
 use Rattle.acorn.specs.declared.stretch.Stretch.the-variants.{DataEnd}
 use Rattle.acorn.proofs.StretchRuns.{state-none, state-all}
-use Rattle.acorn.proofs.ControlTable.{ca-of-row, cb-of-row}
+use Rattle.acorn.proofs.ControlTable.{stepsOf, ca-of-row, cb-of-row}
 use Rattle.acorn.proofs.FixedRuns.{end-more}
 use Rattle.acorn.proofs.end_data.Statement.{statement}
 use Rattle.acorn.proofs.end_data.Tie as tie
@@ -34,7 +34,7 @@ controls-at-requires : tie.Need-controls-at-requires Inv-loop μ-loop
 controls-at-requires c κs = search needs
 
 together-requires : tie.Need-together-requires Inv-loop μ-loop
-together-requires c κs = omega arith
+together-requires c κs = search needs
 
 add-n : tie.Need-add-n Inv-loop μ-loop
 add-n c = omega arith
@@ -43,7 +43,7 @@ loop-less : tie.Need-loop-less Inv-loop μ-loop
 loop-less c = omega arith
 
 loop-again : tie.Need-loop-again Inv-loop μ-loop
-unfolding firstStep rowOf
+unfolding firstStep rowOf stepsOf
 loop-again c =
     let controlled = c .before .before in
     let worded = controlled .before in

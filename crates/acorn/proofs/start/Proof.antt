@@ -5,7 +5,7 @@ use native.Mathlib.Omega.{arith}
 use borrow.Author.Needs.{needs}
 use Rattle.acorn_model.specs.Step.{run}
 use Rattle.acorn_model.specs.Stretches.{inputs, zeros, start}
-use Rattle.acorn.specs.Together.{stateOf}
+use Rattle.acorn_kernel.specs.Together.{stateOf}
 use Rattle.acorn.proofs.StretchRuns.{state-none, state-all}
 use Rattle.acorn.proofs.FixedRuns.{start-key, start-nonce, start-more, start-all, start-key-size, start-nonce-size}
 use Rattle.acorn.proofs.start.Statement.{statement}
@@ -52,7 +52,7 @@ controls-at-requires : tie.Need-controls-at-requires Inv-loop μ-loop Inv-loop2 
 controls-at-requires c κs = search needs
 
 together-requires : tie.Need-together-requires Inv-loop μ-loop Inv-loop2 μ-loop2 Inv-loop3 μ-loop3
-together-requires c κs = omega arith
+together-requires c κs = search needs
 
 add-n : tie.Need-add-n Inv-loop μ-loop Inv-loop2 μ-loop2 Inv-loop3 μ-loop3
 add-n c = omega arith
@@ -88,7 +88,7 @@ controls-at-requires-2 : tie.Need-controls-at-requires-2 Inv-loop μ-loop Inv-lo
 controls-at-requires-2 c κs = search needs
 
 together-requires-2 : tie.Need-together-requires-2 Inv-loop μ-loop Inv-loop2 μ-loop2 Inv-loop3 μ-loop3
-together-requires-2 c κs = omega arith
+together-requires-2 c κs = search needs
 
 add-n-2 : tie.Need-add-n-2 Inv-loop μ-loop Inv-loop2 μ-loop2 Inv-loop3 μ-loop3
 add-n-2 c = omega arith
@@ -122,7 +122,7 @@ controls-at-requires-3 : tie.Need-controls-at-requires-3 Inv-loop μ-loop Inv-lo
 controls-at-requires-3 c κs = search needs
 
 together-requires-3 : tie.Need-together-requires-3 Inv-loop μ-loop Inv-loop2 μ-loop2 Inv-loop3 μ-loop3
-together-requires-3 c κs = omega arith
+together-requires-3 c κs = search needs
 
 add-n-3 : tie.Need-add-n-3 Inv-loop μ-loop Inv-loop2 μ-loop2 Inv-loop3 μ-loop3
 add-n-3 c = omega arith

@@ -1,7 +1,7 @@
 -- `acorn::tag` meets its contract.
 use mathlib.Core.Path.{refl, _∙_}
 use borrow.Author.Needs.{needs}
-use Rattle.acorn.specs.Together.{stateOf}
+use Rattle.acorn_kernel.specs.Together.{stateOf}
 use Rattle.acorn.proofs.FixedRuns.{tag-exact}
 use Rattle.acorn.proofs.tag.Statement.{statement}
 use Rattle.acorn.proofs.tag.Tie as tie

@@ -8,7 +8,7 @@ use lib.ListN.{length, drop}
 use Rattle.acorn_model.specs.Bits.{bytes}
 use Rattle.acorn_model.specs.Step.{run}
 use Rattle.acorn_model.specs.Stretches.{inputs, keystream, final}
-use Rattle.acorn.specs.Together.{stateOf}
+use Rattle.acorn_kernel.specs.Together.{stateOf}
 use Rattle.acorn.proofs.StretchRuns.{state-none, Written, written-none, written-more}
 use Rattle.acorn.proofs.FixedRuns.{final-more, final-ks, tag-all, tag-refused}
 use Rattle.acorn.proofs.write_tag.Statement.{statement}
@@ -40,7 +40,7 @@ controls-at-requires : tie.Need-controls-at-requires Inv-loop μ-loop Inv-loop2 
 controls-at-requires c κs = search needs
 
 together-requires : tie.Need-together-requires Inv-loop μ-loop Inv-loop2 μ-loop2
-together-requires c κs = omega arith
+together-requires c κs = search needs
 
 add-n : tie.Need-add-n Inv-loop μ-loop Inv-loop2 μ-loop2
 add-n c = omega arith
@@ -57,7 +57,7 @@ loop-again c =
     let steps = c .before .together in (
       omega arith,
       omega arith,
-      final-more S (stateOf (v .t)) (stateOf (steps .result .state)) (2304 + v .n) (v .n) (steps .result .ks) (controls .result .ca) (controls .result .cb)
+      final-more S (stateOf (v .t)) (stateOf (steps .result .state)) (1050880 + v .n) (v .n) (steps .result .ks) (controls .result .ca) (controls .result .cb)
           (omega arith) (controls .ensures .caIs) (controls .ensures .cbIs) (v .inv .2) (steps .ensures),
     )
 
@@ -71,7 +71,7 @@ controls-at-requires-2 : tie.Need-controls-at-requires-2 Inv-loop μ-loop Inv-lo
 controls-at-requires-2 c κs = search needs
 
 together-requires-2 : tie.Need-together-requires-2 Inv-loop μ-loop Inv-loop2 μ-loop2
-together-requires-2 c κs = omega arith
+together-requires-2 c κs = search needs
 
 store-word-requires : tie.Need-store-word-requires Inv-loop μ-loop Inv-loop2 μ-loop2
 store-word-requires c κs = omega arith
@@ -101,11 +101,11 @@ loop2-again c =
       omega arith,
       omega arith,
       store .kept .0 ∙ v .inv .3,
-      final-more T (stateOf (v .t)) (stateOf (steps .result .state)) (2304 + v .n) (8 * v .i) (steps .result .ks) (controls .result .ca) (controls .result .cb)
+      final-more T (stateOf (v .t)) (stateOf (steps .result .state)) (1050880 + v .n) (8 * v .i) (steps .result .ks) (controls .result .ca) (controls .result .cb)
           (omega arith) (controls .ensures .caIs) (controls .ensures .cbIs) (v .inv .4) (steps .ensures)
           ∙ ap (λ (q : ℕ). run (inputs final) q T) e,
       written-more (keystream final T) out₀ (v .out) (store .last .0) (v .i) 4 (steps .result .ks) (omega arith) (v .inv .5)
-          (final-ks T (stateOf (v .t)) (stateOf (steps .result .state)) (2304 + v .n) (8 * v .i) (steps .result .ks) (controls .result .ca) (controls .result .cb)
+          (final-ks T (stateOf (v .t)) (stateOf (steps .result .state)) (1050880 + v .n) (8 * v .i) (steps .result .ks) (controls .result .ca) (controls .result .cb)
           (omega arith) (controls .ensures .caIs) (controls .ensures .cbIs) (v .inv .4) (steps .ensures)) (store .ensures),
     )
 

@@ -2,7 +2,7 @@
 use mathlib.Core.Path.{sym, ap₂, _∙_}
 use borrow.Author.Needs.{needs}
 use Rattle.acorn_model.specs.Bits.{_⊕_}
-use Rattle.acorn.proofs.WordBits.{bit-xor}
+use Rattle.acorn_kernel.proofs.WordBits.{bit-xor}
 use Rattle.acorn.proofs.FixedRuns.{start-again}
 use Rattle.acorn.proofs.stretch.key_again.Statement.{statement}
 use Rattle.acorn.proofs.stretch.key_again.Tie as tie

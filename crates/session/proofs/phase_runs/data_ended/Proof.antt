@@ -1,7 +1,7 @@
 -- `data_ended` meets its contract.
 use mathlib.Core.Path.{sym, ap, _∙_}
 use borrow.Author.Needs.{needs}
-use Rattle.acorn.specs.Together.{stateOf}
+use Rattle.acorn_kernel.specs.Together.{stateOf}
 use Rattle.session.specs.Contracts.{endedState}
 use Rattle.session.proofs.phase_runs.data_ended.Statement.{statement}
 use Rattle.session.proofs.phase_runs.data_ended.Tie as tie
