@@ -11,7 +11,7 @@ use Rattle.acorn_model.proofs.Pieces.{message-out, message-tag}
 use Rattle.acorn_model.proofs.Inverse.{decrypted-ciphertext, opens-with-tag, opens-exactly}
 use Rattle.acorn_model.proofs.Relation.{sealing-by-paper, sealing-only, opening-by-paper, opening-only}
 use Rattle.acorn_model.proofs.Whole.{opened-exactly}
-use Rattle.acorn_model.proofs.Messages.{seals, opens, opens-sealed, seal-refused, open-refused, sevens-alike}
+use Rattle.acorn_model.proofs.Messages.{seals, opens, opens-sealed, seal-long-data, seal-long-text, open-long-data, open-long-text, seal-refused, open-refused, sevens-alike}
 
 module _ (key nonce «data» : List ℕ) where
   pub paper-computed : PaperComputed key nonce «data»
@@ -53,6 +53,10 @@ module _ (key nonce «data» : List ℕ) where
         seals = seals key nonce «data»;
         opens-exactly = opens key nonce «data»;
         opens-sealed = opens-sealed key nonce «data»;
+        seal-long-data = seal-long-data key nonce «data»;
+        seal-long-text = seal-long-text key nonce «data»;
+        open-long-data = open-long-data key nonce «data»;
+        open-long-text = open-long-text key nonce «data»;
         seal-refused = seal-refused key nonce «data»;
         open-refused = open-refused key nonce «data»;
         sevens-alike = sevens-alike key nonce «data»;

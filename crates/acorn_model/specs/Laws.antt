@@ -3,7 +3,7 @@ use mathlib.Core.Path.{_≡_}
 use mathlib.Core.Bool.{Bool, true, false}
 use mathlib.Core.List.{List}
 use mathlib.Core.Logic.{_↔_}
-use Prim.Native.Nat.{ℕ, _+_, _*_, _≤_}
+use Prim.Native.Nat.{ℕ, _+_, _*_, _≤_, _<_}
 use lib.ListN.{length, take}
 use Rattle.acorn_model.specs.Bits.{Bits, AreBytes, bitsIn, bytes}
 use Rattle.acorn_model.specs.Paper.{Encrypts, ciphertext, tag, decrypted, newTag, Opens}
@@ -73,6 +73,15 @@ module _ (key nonce «data» : List ℕ) where
     pub opens-sealed : (text out out′ : List ℕ) → AreBytes text → WithinLimits text → length text + tagLength ≤ length out → length text ≤ length out′
         → openMessage key nonce «data» (take (length text + tagLength) (sealMessage key nonce «data» text out .out)) out′
         ≡ record { answer = done (length text); out = writtenOver text out′ }
+    -- data or text over the limit is 5, whatever the output
+    pub seal-long-data : (text out : List ℕ) → length key ≡ keyLength → length nonce ≡ nonceLength → byteLimit < length «data»
+        → sealMessage key nonce «data» text out .answer ≡ refused 5
+    pub seal-long-text : (text out : List ℕ) → length key ≡ keyLength → length nonce ≡ nonceLength → byteLimit < length text
+        → sealMessage key nonce «data» text out .answer ≡ refused 5
+    pub open-long-data : (sealedBytes out : List ℕ) → length key ≡ keyLength → length nonce ≡ nonceLength → tagLength ≤ length sealedBytes
+        → byteLimit < length «data» → openMessage key nonce «data» sealedBytes out .answer ≡ refused 5
+    pub open-long-text : (sealedBytes out : List ℕ) → length key ≡ keyLength → length nonce ≡ nonceLength → byteLimit + tagLength < length sealedBytes
+        → openMessage key nonce «data» sealedBytes out .answer ≡ refused 5
     -- a refused call leaves its output as it was
     pub seal-refused : (n : ℕ) (text out : List ℕ) → sealMessage key nonce «data» text out .answer ≡ refused n → sealMessage key nonce «data» text out .out ≡ out
     pub open-refused : (n : ℕ) (sealedBytes out : List ℕ) → openMessage key nonce «data» sealedBytes out .answer ≡ refused n
