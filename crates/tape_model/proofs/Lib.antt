@@ -5,6 +5,7 @@ pub mod Inverses
 pub mod Tickets
 pub mod Tapes
 pub mod Cases
+pub mod RefusalCases
 pub mod Unpacking
 pub mod Opening
 pub mod Listing

@@ -2,19 +2,21 @@
 use mathlib.Core.Path.{_≡_}
 use mathlib.Core.Bool.{Bool, true}
 use mathlib.Core.List.{List, [], _∷_, _++_}
-use Prim.Native.Nat.{ℕ, zero, suc, _+_, _-_, _*_, _^_, _≤_, _<_}
+use Prim.Native.Nat.{ℕ, zero, suc, _+_, _-_, _*_, _/_, _^_, _≤_, _<_}
 use lib.ListN.{length, getD, replicate}
 use Rattle.acorn_model.specs.Bits.{AreBytes}
 use Rattle.acorn_model.specs.Calls.{Reply, refused, done, accepted, writtenOver}
 use Rattle.acorn_model.specs.Machine.{keyLength}
+use Rattle.acorn_model.specs.Message.{sealed}
 use Rattle.tape_model.specs.declared.Ticket.{Ticket}
 use Rattle.tape_model.specs.declared.Head.{Head}
 use Rattle.tape_model.specs.Format.{totalWidth, widths, join, cut, Fit, byteWidths, pack, bitString}
 use Rattle.tape_model.specs.Ticket.{form1, ticketLength, ticketValues, ticketRule, packTicket, unpackTicket, headFormat, headLength, headValues, headRule, packHead, unpackHead}
-use Rattle.tape_model.specs.Tape.{ticketLimit, packTickets, tapeOf, emptyTapeLength, totalNet, openRefusal, openTape}
+use Rattle.tape_model.specs.Tape.{ticketLimit, nonceOf, packTickets, tapeOf, ticketsLength, unpackTickets, isRefused, emptyTapeLength, totalNet, openRefusal, openTape}
 use Rattle.tape_model.specs.Reader.{Reading, ticket, atEnd, Reader, readerOver, readNext}
 use Rattle.tape_model.specs.Listing.{decimal, headLine, ticketLines, totalLine, refusedLine, listed, listing, printed, exampleText}
 use Rattle.tape_model.specs.Cases.{ticketWith}
+use Rattle.tape_model.specs.RefusalCases.{goodHead, lastByteC1}
 
 -- ## Formats, over every list of widths
 
@@ -80,6 +82,19 @@ pub record TapeLaws (key : List ℕ) (head : Head) (tickets : List Ticket) : Typ
 abbrev pub TapesComeBack : Type 0
 TapesComeBack = (key : List ℕ) (head : Head) (tickets : List Ticket)
     → length key ≡ keyLength → headRule head ≡ true → Valid tickets → length tickets ≤ ticketLimit → TapeLaws key head tickets
+
+-- plain bytes sealed as a tape's, whatever they are
+abbrev pub tapeWithText : List ℕ → Head → List ℕ → List ℕ
+tapeWithText key head text = packHead head ++ sealed key (nonceOf (packHead head)) (packHead head) text
+
+pub record BadTickets : Type 0 where
+  -- the tag matches, and a ticket does not unpack: 8, and nothing is written
+  pub eight : (key : List ℕ) (head : Head) (text out : List ℕ) → length key ≡ keyLength → headRule head ≡ true → AreBytes text
+      → ticketsLength (length text) ≡ true → length text ≤ length out → isRefused (unpackTickets (length text / ticketLength) text) ≡ true
+      → openTape key (tapeWithText key head text) out ≡ record { answer = refused 8; out = out }
+  -- document 01's example
+  pub last-byte-C1 : (key out : List ℕ) → length key ≡ keyLength → 13 ≤ length out
+      → openTape key (tapeWithText key goodHead lastByteC1) out ≡ record { answer = refused 8; out = out }
 
 -- ## The listing
 

@@ -6,4 +6,5 @@ pub mod WriterLists
 pub mod Reader
 pub mod Listing
 pub mod Cases
+pub mod RefusalCases
 pub mod Laws
