@@ -1,25 +1,25 @@
--- Every tape is written: start, an add for each of at most 5,000 valid tickets and finish are accepted throughout.
+-- Every tape is written: start, an add for each of at most 5,000 valid tickets and finish are accepted throughout. The 5,001st ticket is not.
 use mathlib.Core.Path.{_≡_, refl, sym, ap, _∙_, subst}
 use mathlib.Core.Bool.{true}
 use mathlib.Core.List.{List, [], _∷_, _++_}
-use Prim.Native.Nat.{ℕ, _+_, _≤_}
+use Prim.Native.Nat.{ℕ, suc, _+_, _≤_, _<_}
 use native.Mathlib.Omega.{arith}
 use lib.ListN.{length}
-use borrow.Author.Tests.{le-ltb, lt-leb, eq-eqb}
+use borrow.Author.Tests.{le-ltb, le-leb, lt-leb, eq-eqb}
 use Rattle.acorn_model.specs.Stretches.{tagLength}
-use Rattle.acorn_model.specs.Calls.{done, Work, Outcome, unlessRefused, entries, handedOn}
+use Rattle.acorn_model.specs.Calls.{done, Work, Outcome, unlessRefused, refusedWith, entries, handedOn}
 use Rattle.acorn_model.specs.Machine.{keyLength, answered, wrote}
 use Rattle.acorn_model.specs.Machine.{work as machineWork}
 use Rattle.acorn_model.specs.Lists.{ifAccepted}
 use Rattle.tape_model.specs.declared.Ticket.{Ticket}
 use Rattle.tape_model.specs.declared.Head.{Head}
 use Rattle.tape_model.specs.declared.WriterPhase.the-variants.{Open, Closed}
-use Rattle.tape_model.specs.Ticket.{ticketLength, headLength, headRule}
+use Rattle.tape_model.specs.Ticket.{ticketLength, ticketRule, headLength, headRule}
 use Rattle.tape_model.specs.Tape.{ticketLimit, tapeOf}
-use Rattle.tape_model.specs.Writer.{PlainWriter, freshWriter, WriterCall, start, add, finish, phaseAllows, keyRight, headRight, ticketRight, tapeFull, outputShort, refusal, work, writerCall}
+use Rattle.tape_model.specs.Writer.{PlainWriter, freshWriter, WriterCall, start, add, finish, outputOf, phaseAllows, keyRight, headRight, ticketRight, tapeFull, outputShort, refusal, work, writerCall}
 use Rattle.tape_model.specs.WriterLists.{Started, startOf, ticketsOf, WriterLog, writerLog}
 use Rattle.tape_model.specs.Laws.{Valid}
-use Rattle.call_lists.specs.WriterLists.{writerLogFrom, adds, tapeCalls, EveryTapeWritten}
+use Rattle.call_lists.specs.WriterLists.{writerAfter, writerLogFrom, adds, tapeCalls, EveryTapeWritten, FullTapeRefuses}
 use Rattle.call_lists.proofs.Refusals.{WriterPassed}
 use Rattle.call_lists.proofs.WriterReached.{WriterReached, fresh-writer-reached}
 use Rattle.call_lists.proofs.WriterAccepts.{machine-passed, comesTo, accepted-work}
@@ -62,6 +62,30 @@ first w c cs ss ts a h p e rest =
     (sym (comes w c h p)) (rw e (rest .0, ap (_++_ (startOf c)) (rest .1), ap (_++_ (ticketsOf c)) (rest .2)))
 
 module _ (out : List ℕ) (room : tagLength ≤ length out) where
+  start-passes : (key : List ℕ) (head : Head) → length key ≡ keyLength → headRule head ≡ true → WriterPassed freshWriter (start key head out)
+  unfolding freshWriter phaseAllows keyRight headRight ticketRight tapeFull outputShort
+  start-passes key head k r =
+      record {
+        phase = refl;
+        key = eq-eqb (length key) keyLength k;
+        head = r;
+        ticket = refl;
+        full = refl;
+        output = le-ltb (length out) headLength (omega arith);
+      }
+
+  add-passes : (w : PlainWriter) (t : Ticket) → w .phase ≡ Open → ticketRule t ≡ true → w .tickets < ticketLimit → WriterPassed w (add t out)
+  unfolding phaseAllows keyRight headRight ticketRight tapeFull outputShort
+  add-passes w t o v l =
+      record {
+        phase = rw o;
+        key = refl;
+        head = refl;
+        ticket = v;
+        full = lt-leb ticketLimit (w .tickets) l;
+        output = le-ltb (length out) ticketLength (omega arith);
+      }
+
   -- from an open writer with room for the tickets left
   from-open : (w : PlainWriter) (ts : List Ticket) → HasRun w → w .phase ≡ Open → Valid ts → w .tickets + length ts ≤ ticketLimit
       → Comes w (adds ts out ++ (finish out ∷ [])) [] ts
@@ -70,14 +94,7 @@ module _ (out : List ℕ) (room : tagLength ≤ length out) where
       let p : WriterPassed w (finish out) = record { phase = rw o; key = refl; head = refl; ticket = refl; full = refl; output = le-ltb (length out) tagLength room } in
       first w (finish out) [] [] [] _ h p refl (refl, refl, refl)
   from-open w (t ∷ ts) h o v l =
-      let p : WriterPassed w (add t out) = record {
-        phase = rw o;
-        key = refl;
-        head = refl;
-        ticket = v .0;
-        full = lt-leb ticketLimit (w .tickets) (omega arith);
-        output = le-ltb (length out) ticketLength (omega arith);
-      } in
+      let p = add-passes w t o (v .0) (omega arith) in
       let rest = from-open (comesTo w (add t out) .next) ts (runs-on w (add t out) h p) refl (v .1) (omega arith) in
       first w (add t out) (adds ts out ++ (finish out ∷ [])) [] ts _ h p refl rest
 
@@ -87,18 +104,35 @@ module _ (out : List ℕ) (room : tagLength ≤ length out) where
   from-fresh key head ts k r v l =
       let c : WriterCall = start key head out in
       let h : HasRun freshWriter = (_, fresh-writer-reached) in
-      let p : WriterPassed freshWriter c = record {
-        phase = refl;
-        key = eq-eqb (length key) keyLength k;
-        head = r;
-        ticket = refl;
-        full = refl;
-        output = le-ltb (length out) headLength (omega arith);
-      } in
+      let p = start-passes key head k r in
       let rest = from-open (comesTo freshWriter c .next) ts (runs-on freshWriter c h p) refl v (omega arith) in
       first freshWriter c (adds ts out ++ (finish out ∷ [])) [] ts _ h p refl rest
 
--- ## The claim
+  -- a writer that is started and given tickets is open, with as many tickets
+  abbrev Opened : PlainWriter → ℕ → Type 0
+  Opened w n = (w .phase ≡ Open) × (w .tickets ≡ n)
+
+  added : (w : PlainWriter) (ts : List Ticket) → HasRun w → w .phase ≡ Open → Valid ts → w .tickets + length ts ≤ ticketLimit
+      → Opened (handedOn writerCall w (adds ts out)) (w .tickets + length ts)
+  unfolding handedOn machineWork wrote answered
+  added w [] h o v l = (o, omega arith)
+  added w (t ∷ ts) h o v l =
+      let p = add-passes w t o (v .0) (omega arith) in
+      let rest = added (comesTo w (add t out) .next) ts (runs-on w (add t out) h p) refl (v .1) (omega arith) in
+      subst (λ (x : Outcome PlainWriter Work). Opened (handedOn writerCall (x .next) (adds ts out)) (w .tickets + suc (length ts))) (sym (comes w (add t out) h p))
+      (rest .0, omega (arith, rest .1))
+
+  filled : (key : List ℕ) (head : Head) (ts : List Ticket) → length key ≡ keyLength → headRule head ≡ true → Valid ts → length ts ≤ ticketLimit
+      → Opened (writerAfter (start key head out ∷ adds ts out)) (length ts)
+  unfolding handedOn freshWriter
+  filled key head ts k r v l =
+      let c : WriterCall = start key head out in
+      let h : HasRun freshWriter = (_, fresh-writer-reached) in
+      let p = start-passes key head k r in
+      let rest = added (comesTo freshWriter c .next) ts (runs-on freshWriter c h p) refl v (omega arith) in
+      subst (λ (x : Outcome PlainWriter Work). Opened (handedOn writerCall (x .next) (adds ts out)) (length ts)) (sym (comes freshWriter c h p)) (rest .0, omega (arith, rest .1))
+
+-- ## The claims
 
 pub every-tape-written : EveryTapeWritten
 every-tape-written key head ts out k r v l room =
@@ -112,3 +146,10 @@ every-tape-written key head ts out k r v l room =
       tickets = c .2;
       written = t .2 ∙ ap (λ (x : Started). tapeOf (x .key) (x .head) (writerLogFrom (tapeCalls key head ts out) .tickets)) s ∙ ap (tapeOf key head) (c .2);
     }
+
+pub full-tape-refuses : FullTapeRefuses
+unfolding writerCall unlessRefused refusal refusedWith outputOf phaseAllows keyRight headRight ticketRight tapeFull
+full-tape-refuses key head ts out t out′ k r v l room good =
+    let w : PlainWriter = writerAfter (start key head out ∷ adds ts out) in
+    let o = filled out room key head ts k r v (omega arith) in
+    rw (o .0, good, le-leb ticketLimit (w .tickets) (omega (arith, o .1, l)))

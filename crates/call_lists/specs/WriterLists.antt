@@ -5,14 +5,14 @@ use mathlib.Core.List.{List, [], _∷_, _++_}
 use Prim.Native.Nat.{ℕ, _+_, _≤_}
 use lib.ListN.{length}
 use Rattle.acorn_model.specs.declared.Kind.the-variants.{Sealing}
-use Rattle.acorn_model.specs.Calls.{done, Work, Entry, entries, handedOn}
+use Rattle.acorn_model.specs.Calls.{refused, done, Work, Entry, entries, handedOn}
 use Rattle.acorn_model.specs.Stretches.{tagLength}
 use Rattle.acorn_model.specs.Machine.{fresh, Call, keyLength, call}
 use Rattle.acorn_model.specs.Lists.{logOf}
 use Rattle.tape_model.specs.declared.Ticket.{Ticket}
 use Rattle.tape_model.specs.declared.Head.{Head}
 use Rattle.tape_model.specs.declared.WriterPhase.the-variants.{Closed}
-use Rattle.tape_model.specs.Ticket.{headRule}
+use Rattle.tape_model.specs.Ticket.{ticketRule, headRule}
 use Rattle.tape_model.specs.Tape.{ticketLimit, tapeOf}
 use Rattle.tape_model.specs.Writer.{PlainWriter, freshWriter, WriterCall, start, add, finish, writerCall}
 use Rattle.tape_model.specs.WriterLists.{Started, WriterLog, writerLog, headsOf}
@@ -70,3 +70,11 @@ pub record WriterEvery (key : List ℕ) (head : Head) (ts : List Ticket) (out : 
 abbrev pub EveryTapeWritten : Type 0
 EveryTapeWritten = (key : List ℕ) (head : Head) (ts : List Ticket) (out : List ℕ)
     → length key ≡ keyLength → headRule head ≡ true → Valid ts → length ts ≤ ticketLimit → tagLength ≤ length out → WriterEvery key head ts out
+
+-- ## The 5,001st ticket
+
+-- a writer that was started and given 5,000 valid tickets sends a further valid one back with 5, whatever output it is lent
+abbrev pub FullTapeRefuses : Type 0
+FullTapeRefuses = (key : List ℕ) (head : Head) (ts : List Ticket) (out : List ℕ) (t : Ticket) (out′ : List ℕ)
+    → length key ≡ keyLength → headRule head ≡ true → Valid ts → length ts ≡ ticketLimit → tagLength ≤ length out → ticketRule t ≡ true
+    → writerCall (writerAfter (start key head out ∷ adds ts out)) (add t out′) ≡ record { next = writerAfter (start key head out ∷ adds ts out); answer = refused 5; out = out′ }
