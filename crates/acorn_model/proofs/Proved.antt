@@ -5,7 +5,9 @@ use mathlib.Core.List.{List}
 use Prim.Native.Nat.{ℕ}
 use Rattle.acorn_model.specs.Stretches.{joined}
 use Rattle.acorn_model.specs.Paper.{ciphertext, tag, decrypted, newTag}
-use Rattle.acorn_model.specs.Laws.{PaperComputed, OpeningExact, StretchesAgree, MessageLaws}
+use Rattle.acorn_model.specs.Calls.{unlessRefused, refusedWith}
+use Rattle.acorn_model.specs.Machine.{Machine, Call, begin, dataCall, sealText, checkText, sealClose, checkClose, outputOf, call}
+use Rattle.acorn_model.specs.Laws.{PaperComputed, OpeningExact, StretchesAgree, MessageLaws, SentBack, SentBackLaws}
 use Rattle.acorn_model.proofs.Agree.{ciphertext-agrees, tag-agrees, decrypted-agrees, newTag-agrees}
 use Rattle.acorn_model.proofs.Pieces.{message-out, message-tag}
 use Rattle.acorn_model.proofs.Inverse.{decrypted-ciphertext, opens-with-tag, opens-exactly}
@@ -61,3 +63,19 @@ module _ (key nonce «data» : List ℕ) where
         open-refused = open-refused key nonce «data»;
         sevens-alike = sevens-alike key nonce «data»;
       }
+
+sent-back : (m : Machine) (c : Call) → SentBack m c (outputOf c)
+unfolding call unlessRefused refusedWith
+sent-back m c n e = rw e
+
+pub sent-back-laws : (m : Machine) → SentBackLaws m
+unfolding outputOf
+sent-back-laws m =
+    record {
+      of-begin = λ key nonce. sent-back m (begin key nonce);
+      of-data = λ piece. sent-back m (dataCall piece);
+      of-seal-text = λ piece out. sent-back m (sealText piece out);
+      of-check-text = λ piece. sent-back m (checkText piece);
+      of-seal-close = λ out. sent-back m (sealClose out);
+      of-check-close = λ tag. sent-back m (checkClose tag);
+    }

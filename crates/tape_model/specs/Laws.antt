@@ -13,6 +13,7 @@ use Rattle.tape_model.specs.declared.Head.{Head}
 use Rattle.tape_model.specs.Format.{totalWidth, widths, join, cut, Fit, byteWidths, pack, bitString}
 use Rattle.tape_model.specs.Ticket.{form1, ticketLength, ticketValues, ticketRule, packTicket, unpackTicket, headFormat, headLength, headValues, headRule, packHead, unpackHead}
 use Rattle.tape_model.specs.Tape.{ticketLimit, nonceOf, packTickets, tapeOf, ticketsLength, unpackTickets, isRefused, emptyTapeLength, totalNet, openRefusal, openTape}
+use Rattle.tape_model.specs.Writer.{PlainWriter, WriterCall, start, add, finish, refusal, writerCall}
 use Rattle.tape_model.specs.Reader.{Reading, ticket, atEnd, Reader, readerOver, readNext}
 use Rattle.tape_model.specs.Listing.{decimal, headLine, ticketLines, totalLine, refusedLine, listed, listing, printed, exampleText}
 use Rattle.tape_model.specs.Cases.{ticketWith}
@@ -95,6 +96,17 @@ pub record BadTickets : Type 0 where
   -- document 01's example
   pub last-byte-C1 : (key out : List ℕ) → length key ≡ keyLength → 13 ≤ length out
       → openTape key (tapeWithText key goodHead lastByteC1) out ≡ record { answer = refused 8; out = out }
+
+-- ## The plain writer
+
+-- where a number applies, the call answers it, and the writer and the call's output stay as they are
+abbrev pub SentBack : PlainWriter → WriterCall → List ℕ → Type 0
+SentBack w c out = (n : ℕ) → refusal w c ≡ suc n → writerCall w c ≡ record { next = w; answer = refused (suc n); out = out }
+
+pub record SentBackLaws (w : PlainWriter) : Type 0 where
+  pub of-start : (key : List ℕ) (head : Head) (out : List ℕ) → SentBack w (start key head out) out
+  pub of-add : (t : Ticket) (out : List ℕ) → SentBack w (add t out) out
+  pub of-finish : (out : List ℕ) → SentBack w (finish out) out
 
 -- ## The listing
 
