@@ -11,7 +11,7 @@ use borrow.Author.Tests.{ltb-true, ltb-false, lt-ltb, le-ltb, ne-eqb}
 use Rattle.acorn_model.specs.Bits.{_if_else_}
 use Rattle.tape_model.specs.Ticket.{net}
 use Rattle.acorn_model.specs.Machine.{keyLength}
-use Rattle.tape_model.specs.Tape.{totalNet, tapeLength, openRefusal}
+use Rattle.tape_model.specs.Tape.{ticketsLength, totalNet, tapeLength, openRefusal}
 use Rattle.tape_model.specs.Listing.{decimalBelow, decimal, numbers, headLine, ticketLine, ticketLines, totalLine, refusedLine, listed, listingUnless, listing, printed}
 use Rattle.tape_model.specs.Laws.{valueAfter, ListingLaws}
 
@@ -121,7 +121,7 @@ short-key input h =
 -- ## All of it
 
 pub listing-laws : ListingLaws
-unfolding listing listingUnless listed headLine ticketLines ticketLine totalLine numbers decimalBelow net totalNet
+unfolding printed listing listingUnless listed headLine ticketLines ticketLine totalLine refusedLine numbers decimalBelow net totalNet openRefusal tapeLength ticketsLength
 listing-laws =
     record {
       digits = all-digits 20;
@@ -131,4 +131,5 @@ listing-laws =
       short-key = short-key;
       refusal = λ key tape n e. ap (λ (x : ℕ). listingUnless x key tape) e;
       example = refl;
+      refused-example = refl;
     }

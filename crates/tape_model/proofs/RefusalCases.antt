@@ -7,7 +7,7 @@ use borrow.Author.Tests.{eqb-true}
 use Rattle.acorn_model.proofs.Choices.{both}
 use Rattle.acorn_model.proofs.StepCases.{same}
 use Rattle.tape_model.specs.Ticket.{ordered, valuesRule, ticketRule, packTicket, unpackTicket, headRule, packHead, unpackHead}
-use Rattle.tape_model.specs.Tape.{ticketsLength, tapeLength, openRefusal}
+use Rattle.tape_model.specs.Tape.{ticketsLength, unpackTickets, totalsOf, plainTotals, tapeLength, openRefusal}
 use Rattle.tape_model.specs.Writer.{phaseAllows, keyRight, headRight, ticketRight, tapeFull, outputShort, refusal}
 use Rattle.tape_model.specs.Reader.{handedOut, readNext}
 use Rattle.tape_model.specs.RefusalCases.{writerWith, RefusalCase, writes, opens, sizes, Gets, AllGet, refusalCases, ReaderCases}
@@ -35,5 +35,5 @@ unfolding refusal phaseAllows keyRight headRight ticketRight tapeFull outputShor
 refusal-cases = shown-all refusalCases refl
 
 pub reader-cases : ReaderCases
-unfolding readNext handedOut ticketsLength unpackTicket packTicket valuesRule ordered
-reader-cases = record { too-short = refl; not-whole = refl; bad = refl; bad-first = refl; bad-second = refl }
+unfolding readNext handedOut plainTotals totalsOf unpackTickets ticketsLength unpackTicket packTicket valuesRule ordered
+reader-cases = record { too-short = refl; not-whole = refl; bad = refl; bad-first = refl; bad-second = refl; no-totals = (refl, refl) }

@@ -19,7 +19,7 @@ use Rattle.tape_model.specs.declared.Ticket.{Ticket}
 use Rattle.tape_model.specs.declared.Head.{Head}
 use Rattle.tape_model.specs.Format.{widths}
 use Rattle.tape_model.specs.Ticket.{form1, ticketLength, ordered, valuesRule, ticketRule, packTicket, unpackTicket, headLength, headRule, packHead, unpackHead}
-use Rattle.tape_model.specs.Tape.{ticketLimit, nonceOf, packTickets, tapeOf, ticketsLength, ticketThen, unpackTickets, isRefused, ticketsIn, totalNet, emptyTapeLength, tapeLength, headBytes, sealedBytes, ticketCount, plainBytes, openRefusal, openTape}
+use Rattle.tape_model.specs.Tape.{ticketLimit, nonceOf, packTickets, tapeOf, ticketsLength, ticketThen, unpackTickets, isRefused, ticketsIn, totalNet, totalsOf, plainTotals, emptyTapeLength, tapeLength, headBytes, sealedBytes, ticketCount, plainBytes, openRefusal, openTape}
 use Rattle.tape_model.specs.Reader.{Reading, ticket, atEnd, Reader, readerOver, readNext, stays, handedOut}
 use Rattle.tape_model.specs.Listing.{headLine, ticketLines, totalLine, listed, listingUnless, listing, printed}
 use Rattle.tape_model.specs.Laws.{Valid, readings, readerAfter, asReadings, TapeLaws, TapesComeBack, tapeWithText, BadTickets}
@@ -215,6 +215,12 @@ module _ (key : List ℕ) (head : Head) (ts : List Ticket) (k : length key ≡ k
         rest = refl;
       }
 
+  totals : plainTotals (packTickets ts) ≡ done (record { tickets = length ts; net = totalNet ts })
+  unfolding plainTotals totalsOf
+  totals =
+      let sized : ticketsLength (length (packTickets ts)) ≡ true = ap ticketsLength (tickets-length ts) ∙ length-allowed (length ts) n in
+      rw sized (ap totalsOf (ap (λ (m : ℕ). unpackTickets m (packTickets ts)) {x = length (packTickets ts) / ticketLength} {y = length ts} (omega (arith, tickets-length ts)) ∙ tickets-unpack ts v))
+
   lists : printed (key ++ tape) ≡ headLine head ++ ticketLines 1 ts ++ totalLine ts
   unfolding printed listing listingUnless listed
   lists =
@@ -224,7 +230,7 @@ module _ (key : List ℕ) (head : Head) (ts : List Ticket) (k : length key ≡ k
 
   laws : TapeLaws key head ts
   unfolding readerOver
-  laws = record { size = size; opens = opens; reads = reads-from 0 ts (packTickets ts) v start; ends = λ m. ends-from m 0 ts (packTickets ts) v start; lists = lists }
+  laws = record { size = size; opens = opens; totals = totals; reads = reads-from 0 ts (packTickets ts) v start; ends = λ m. ends-from m 0 ts (packTickets ts) v start; lists = lists }
 
 pub tapes-come-back : TapesComeBack
 tapes-come-back = laws

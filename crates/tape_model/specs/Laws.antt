@@ -8,14 +8,15 @@ use Rattle.acorn_model.specs.Bits.{AreBytes}
 use Rattle.acorn_model.specs.Calls.{Reply, refused, done, accepted, writtenOver}
 use Rattle.acorn_model.specs.Machine.{keyLength}
 use Rattle.acorn_model.specs.Message.{sealed}
+use Rattle.acorn_model.specs.RefusalCases.{string}
 use Rattle.tape_model.specs.declared.Ticket.{Ticket}
 use Rattle.tape_model.specs.declared.Head.{Head}
 use Rattle.tape_model.specs.Format.{totalWidth, widths, join, cut, Fit, byteWidths, pack, bitString}
 use Rattle.tape_model.specs.Ticket.{form1, ticketLength, ticketValues, ticketRule, packTicket, unpackTicket, headFormat, headLength, headValues, headRule, packHead, unpackHead}
-use Rattle.tape_model.specs.Tape.{ticketLimit, nonceOf, packTickets, tapeOf, ticketsLength, unpackTickets, isRefused, emptyTapeLength, totalNet, openRefusal, openTape}
+use Rattle.tape_model.specs.Tape.{ticketLimit, nonceOf, packTickets, tapeOf, ticketsLength, unpackTickets, isRefused, emptyTapeLength, totalNet, plainTotals, openRefusal, openTape}
 use Rattle.tape_model.specs.Writer.{PlainWriter, WriterCall, start, add, finish, refusal, writerCall}
 use Rattle.tape_model.specs.Reader.{Reading, ticket, atEnd, Reader, readerOver, readNext}
-use Rattle.tape_model.specs.Listing.{decimal, headLine, ticketLines, totalLine, refusedLine, listed, listing, printed, exampleText}
+use Rattle.tape_model.specs.Listing.{decimal, headLine, ticketLines, totalLine, refusedLine, listed, listing, printed, exampleText, refusedText}
 use Rattle.tape_model.specs.Cases.{ticketWith}
 use Rattle.tape_model.specs.RefusalCases.{goodHead, lastByteC1}
 
@@ -43,6 +44,11 @@ pub record TicketLaws : Type 0 where
   pub ticket-width : totalWidth (widths form1) ≡ 104
   pub head-bits : (h : Head) → headRule h ≡ true → bitString (byteWidths 9) (packHead h) ≡ bitString (widths headFormat) (headValues h)
   pub head-width : totalWidth (widths headFormat) ≡ 72
+  -- the nonce is the head's 9 bytes and 7 zero bytes
+  pub nonce : (h : Head) → nonceOf (packHead h) ≡ packHead h ++ (0 ∷ 0 ∷ 0 ∷ 0 ∷ 0 ∷ 0 ∷ 0 ∷ [])
+  -- the total net of one ticket is its gross minus its tare, and that of two lists together is the sum
+  pub net-one : (t : Ticket) → totalNet (t ∷ []) ≡ t .gross - t .tare
+  pub net-append : (ts us : List Ticket) → totalNet (ts ++ us) ≡ totalNet ts + totalNet us
   -- no two valid tickets, and no two heads, are packed alike
   pub ticket-injective : (t u : Ticket) → ticketRule t ≡ true → ticketRule u ≡ true → packTicket t ≡ packTicket u → t ≡ u
   pub head-injective : (h i : Head) → headRule h ≡ true → headRule i ≡ true → packHead h ≡ packHead i → h ≡ i
@@ -74,6 +80,7 @@ pub record TapeLaws (key : List ℕ) (head : Head) (tickets : List Ticket) : Typ
   pub opens : (out : List ℕ) → 13 * length tickets ≤ length out
       → openTape key (tapeOf key head tickets) out
       ≡ record { answer = done (record { tickets = length tickets; net = totalNet tickets }); out = writtenOver (packTickets tickets) out }
+  pub totals : plainTotals (packTickets tickets) ≡ done (record { tickets = length tickets; net = totalNet tickets })
   -- a reader over the plain bytes hands out the tickets in turn, and then is at the end for good
   pub reads : readings (length tickets) (readerOver (packTickets tickets)) ≡ asReadings tickets
   pub ends : (n : ℕ) → readNext (readerAfter (length tickets + n) (readerOver (packTickets tickets))) .answer ≡ done atEnd
@@ -126,3 +133,5 @@ pub record ListingLaws : Type 0 where
   pub short-key : (input : List ℕ) → length input < keyLength → printed input ≡ refusedLine 2
   -- document 01's example
   pub example : listed (done (record { device = 7; shift = 2; sheet = 1 })) (ticketWith 3600 4200 250000 110000 ∷ []) ≡ exampleText
+  -- a key and a tape of 37 bytes
+  pub refused-example : printed (string 16 ++ string 37) ≡ refusedText

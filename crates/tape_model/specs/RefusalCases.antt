@@ -13,7 +13,7 @@ use Rattle.tape_model.specs.declared.Head.{Head}
 use Rattle.tape_model.specs.declared.WriterPhase.{WriterPhase}
 use Rattle.tape_model.specs.declared.WriterPhase.the-variants.{Fresh, Open, Closed}
 use Rattle.tape_model.specs.Ticket.{packTicket, unpackTicket, packHead}
-use Rattle.tape_model.specs.Tape.{ticketsLength, tapeLength, openRefusal}
+use Rattle.tape_model.specs.Tape.{ticketsLength, plainTotals, tapeLength, openRefusal}
 use Rattle.tape_model.specs.Writer.{PlainWriter, WriterCall, start, add, finish, refusal}
 use Rattle.tape_model.specs.Reader.{Reader, stays, readNext}
 use Rattle.tape_model.specs.Cases.{ticketWith}
@@ -112,10 +112,11 @@ lastByteC1 = 0x10 ∷ 0x14 ∷ 0x20 ∷ 0xD0 ∷ 0x38 ∷ 0x40 ∷ 0x41 ∷ 0xA0
 abbrev pub readerWith : List ℕ → ℕ → Reader
 readerWith string position = record { string = string; position = position }
 
--- 2 and 8 of a reader, which stays where it is
+-- 2 and 8 of a reader, which stays where it is; and of the totals of plain bytes
 pub record ReaderCases : Type 0 where
   pub too-short : readNext (readerWith (string 12) 0) ≡ stays (readerWith (string 12) 0) (refused 2)
   pub not-whole : readNext (readerWith (string 14) 2) ≡ stays (readerWith (string 14) 2) (refused 2)
   pub bad : unpackTicket lastByteC1 ≡ refused 8
   pub bad-first : readNext (readerWith lastByteC1 0) ≡ stays (readerWith lastByteC1 0) (refused 8)
   pub bad-second : readNext (readerWith (packTicket goodTicket ++ lastByteC1) 1) ≡ stays (readerWith (packTicket goodTicket ++ lastByteC1) 1) (refused 8)
+  pub no-totals : (plainTotals (string 12) ≡ refused 2) × (plainTotals lastByteC1 ≡ refused 8)
