@@ -1,23 +1,29 @@
 -- The writers' lists of specs/Examples.antt: what comes of them is computed as far as phases, counts, sizes and answers go.
 use mathlib.Core.Path.{_≡_, refl, sym, ap, _∙_, subst₂}
-use mathlib.Core.List.{List, [], _∷_}
-use Prim.Native.Nat.{ℕ, _≤_}
-use lib.ListN.{length, replicate}
+use mathlib.Core.Bool.{true}
+use mathlib.Core.List.{List, [], _∷_, _++_}
+use Prim.Native.Nat.{ℕ, zero, suc, _≤_}
+use native.Mathlib.Omega.{arith}
+use lib.ListN.{length, replicate, length-replicate}
 use borrow.Author.Tests.{le-ltb, eq-eqb}
 use Rattle.acorn_model.specs.Stretches.{tagLength}
-use Rattle.acorn_model.specs.Calls.{Reply, refused, done, Work, Entry, unlessRefused, refusedWith, entries, handedOn}
+use Rattle.acorn_model.specs.Calls.{Reply, refused, done, Work, Outcome, Entry, unlessRefused, refusedWith, entries, handedOn}
 use Rattle.acorn_model.specs.Machine.{keyLength, answered, wrote}
 use Rattle.acorn_model.specs.Machine.{work as machineWork}
+use Rattle.tape_model.specs.declared.Ticket.{Ticket}
 use Rattle.tape_model.specs.declared.WriterPhase.the-variants.{Closed}
 use Rattle.tape_model.specs.Ticket.{ticketLength, ordered, valuesRule, ticketRule, headLength, headRule}
-use Rattle.tape_model.specs.Writer.{PlainWriter, freshWriter, WriterCall, start, phaseAllows, keyRight, headRight, ticketRight, tapeFull, outputShort, refusal, work, writerCall}
+use Rattle.tape_model.specs.Writer.{PlainWriter, freshWriter, WriterCall, start, add, phaseAllows, keyRight, headRight, ticketRight, tapeFull, outputShort, refusal, work, writerCall}
 use Rattle.tape_model.specs.WriterLists.{WriterLog}
 use Rattle.call_lists.proofs.Refusals.{WriterPassed}
 use Rattle.call_lists.proofs.WriterReached.{WriterReached, fresh-writer-reached}
 use Rattle.call_lists.proofs.WriterAccepts.{machine-passed, comesTo, accepted-work}
 use Rattle.call_lists.proofs.WriterKept.{writer-kept}
-use Rattle.call_lists.specs.WriterLists.{AllAccepted}
-use Rattle.demands.specs.Examples.{Answers, SomeWriter, someHead, writerCalls, refusedWriterCalls, WriterExamples}
+use Rattle.tape_model.specs.Laws.{Valid}
+use Rattle.call_lists.proofs.Lists.{entries-append}
+use Rattle.call_lists.proofs.WriterEvery.{full-tape-refuses}
+use Rattle.call_lists.specs.WriterLists.{AllAccepted, writerAfter}
+use Rattle.demands.specs.Examples.{Answers, SomeWriter, someHead, someTicket, writerCalls, refusedWriterCalls, fullCalls, EndsWith, WriterExamples}
 use Rattle.demands.proofs.Writers.{writer-demand}
 use Rattle.demands.proofs.Exist.{writers-exist}
 use Rattle.demands.proofs.AllPass.{AllPass, all-same}
@@ -91,5 +97,36 @@ refusals =
     on-writer refusedWriterCalls (Answers theirAnswers)
     (rw (accepted-work freshWriter goodStart (machine-passed freshWriter _ goodStart fresh-writer-reached start-passes)) (refl {a = theirAnswers}))
 
+-- ## The 5,001st ticket
+
+ends-with : (cs : List WriterCall) (c : WriterCall) (o : Outcome PlainWriter Work) → writerCall (writerAfter cs) c ≡ o
+    → SomeWriter (cs ++ (c ∷ [])) (EndsWith c (o .answer))
+unfolding entries
+ends-with cs c o e =
+    on-writer (cs ++ (c ∷ [])) (EndsWith c (o .answer)) (
+      entries writerCall freshWriter cs,
+      o .out,
+      entries-append writerCall freshWriter cs (c ∷ [])
+          ∙ ap (λ (x : Outcome PlainWriter Work). entries writerCall freshWriter cs ++ (record { call = c; answer = x .answer; out = x .out } ∷ [])) e,
+    )
+
+all-valid : (n : ℕ) (t : Ticket) → ticketRule t ≡ true → Valid (replicate n t)
+all-valid zero t h = tt
+all-valid (suc n) t h = (h, all-valid n t h)
+
+good-ticket : ticketRule someTicket ≡ true
+unfolding ticketRule valuesRule ordered
+good-ticket = refl
+
+good-head : headRule someHead ≡ true
+unfolding headRule
+good-head = refl
+
+full : SomeWriter (fullCalls ++ (add someTicket [] ∷ [])) (EndsWith (add someTicket []) (refused 5))
+full =
+    ends-with fullCalls (add someTicket []) _
+    (full-tape-refuses (replicate 16 0) someHead (replicate 5000 someTicket) (replicate 16 0) someTicket []
+    refl good-head (all-valid 5000 someTicket good-ticket) (length-replicate 5000 someTicket) (omega arith) good-ticket)
+
 pub writer-examples : WriterExamples
-writer-examples = record { tape = tape; refusals = refusals }
+writer-examples = record { tape = tape; refusals = refusals; full = full }

@@ -21,7 +21,7 @@ use Rattle.tape_model.specs.Ticket.{ticketLength, headLength, packHead}
 use Rattle.tape_model.specs.Tape.{nonceOf, openTape}
 use Rattle.tape_model.specs.Writer.{PlainWriter, WriterCall, start, add, finish}
 use Rattle.tape_model.specs.Cases.{ticketWith}
-use Rattle.call_lists.specs.WriterLists.{AllAccepted}
+use Rattle.call_lists.specs.WriterLists.{AllAccepted, adds}
 use Rattle.session.specs.declared.Session.{Session}
 use Rattle.session.specs.declared.Reply.{Reply as SessionReply}
 use Rattle.session.specs.Contracts.{machineOf, Called}
@@ -125,6 +125,14 @@ refusedWriterCalls =
     ∷ add (ticketWith 3600 4200 250000 250000) []
     ∷ []
 
+-- 5,000 tickets, and one more
+abbrev pub fullCalls : List WriterCall
+fullCalls = start (replicate 16 0) someHead (replicate 16 0) ∷ adds (replicate 5000 someTicket) (replicate 16 0)
+
+-- the last call of a list is this one, and gets this answer
+abbrev pub EndsWith : {C M : Type 0} → C → Reply Work → List (Entry C) → M → Type 0
+EndsWith {C} c answer es m = (before : List (Entry C)) × (out : List ℕ) × (es ≡ before ++ (record { call = c; answer = answer; out = out } ∷ []))
+
 pub record WriterExamples : Type 0 where
   -- start, add and finish, with room for what they write, are accepted and close the writer
   pub tape : (key out ticketOut tagOut : List ℕ) → length key ≡ keyLength
@@ -133,6 +141,8 @@ pub record WriterExamples : Type 0 where
   -- a list that is sent back with 1, 2, 3, 6 and 4
   pub refusals : SomeWriter refusedWriterCalls
       (Answers (refused 1 ∷ refused 2 ∷ refused 3 ∷ refused 6 ∷ done (record { bytes = 9; steps = 1864 }) ∷ refused 4 ∷ []))
+  -- the 5,001st ticket is sent back with 5
+  pub full : SomeWriter (fullCalls ++ (add someTicket [] ∷ [])) (EndsWith (add someTicket []) (refused 5))
 
 -- ## Whole messages
 
