@@ -5,6 +5,7 @@ pub mod Inverses
 pub mod Tickets
 pub mod Tapes
 pub mod Cases
+pub mod FieldCases
 pub mod RefusalCases
 pub mod SentBack
 pub mod Unpacking

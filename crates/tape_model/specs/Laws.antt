@@ -128,6 +128,8 @@ pub record ListingLaws : Type 0 where
   pub leading : (n : ℕ) → n < 10 ^ 20 → 0 < n → 0x30 < getD (decimal n) 0 0
   pub value : (n : ℕ) → n < 10 ^ 20 → valueAfter 0 (decimal n) ≡ n
   pub zero-digit : decimal 0 ≡ 0x30 ∷ []
+  -- positions go up by one: behind other tickets the lines go on from their number
+  pub positions : (position : ℕ) (ts us : List Ticket) → ticketLines position (ts ++ us) ≡ ticketLines position ts ++ ticketLines (position + length ts) us
   -- a refusal is printed alone; a key cut short is 2
   pub refusal : (key tape : List ℕ) (n : ℕ) → openRefusal key tape (replicate (length tape) 0) ≡ suc n → listing key tape ≡ refusedLine (suc n)
   pub short-key : (input : List ℕ) → length input < keyLength → printed input ≡ refusedLine 2

@@ -6,5 +6,6 @@ pub mod WriterLists
 pub mod Reader
 pub mod Listing
 pub mod Cases
+pub mod FieldCases
 pub mod RefusalCases
 pub mod Laws
