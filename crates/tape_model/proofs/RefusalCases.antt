@@ -4,13 +4,15 @@ use mathlib.Core.Bool.{Bool, true, _&&_, Bool·beq}
 use mathlib.Core.List.{List, [], _∷_}
 use lib.Dec.{eqb}
 use borrow.Author.Tests.{eqb-true}
+use Rattle.acorn_model.specs.Calls.{unlessRefused}
+use Rattle.acorn_model.specs.Message.{resultOf}
 use Rattle.acorn_model.proofs.Choices.{both}
 use Rattle.acorn_model.proofs.StepCases.{same}
-use Rattle.tape_model.specs.Ticket.{ordered, valuesRule, ticketRule, packTicket, unpackTicket, headRule, packHead, unpackHead}
+use Rattle.tape_model.specs.Ticket.{ordered, valuesRule, ticketRule, packTicket, unpackTicket, packTicketInto, headRule, packHead, unpackHead, packHeadInto}
 use Rattle.tape_model.specs.Tape.{ticketsLength, unpackTickets, totalsOf, plainTotals, tapeLength, openRefusal}
 use Rattle.tape_model.specs.Writer.{phaseAllows, keyRight, headRight, ticketRight, tapeFull, outputShort, refusal}
 use Rattle.tape_model.specs.Reader.{handedOut, readNext}
-use Rattle.tape_model.specs.RefusalCases.{writerWith, RefusalCase, writes, opens, sizes, Gets, AllGet, refusalCases, ReaderCases}
+use Rattle.tape_model.specs.RefusalCases.{writerWith, RefusalCase, writes, opens, sizes, Gets, AllGet, refusalCases, ReaderCases, PackingCases}
 
 abbrev gets : RefusalCase → Bool
 gets (writes phase tickets call number) = eqb (refusal (writerWith phase tickets) call) number
@@ -37,3 +39,8 @@ refusal-cases = shown-all refusalCases refl
 pub reader-cases : ReaderCases
 unfolding readNext handedOut plainTotals totalsOf unpackTickets ticketsLength unpackTicket packTicket valuesRule ordered
 reader-cases = record { too-short = refl; not-whole = refl; bad = refl; bad-first = refl; bad-second = refl; no-totals = (refl, refl) }
+
+pub packing-cases : PackingCases
+unfolding packTicketInto packHeadInto resultOf unlessRefused ticketRule valuesRule ordered headRule packHead unpackTicket unpackHead
+packing-cases =
+    record { bad-ticket = refl; ticket-room = (refl, refl); bad-head = refl; head-room = (refl, refl); ticket-size = (refl, refl); head-size = (refl, refl); head-range = refl }

@@ -5,14 +5,14 @@ use mathlib.Core.Bool.{Bool, true, false}
 use mathlib.Core.List.{List, [], _∷_, _++_}
 use Prim.Native.Nat.{ℕ}
 use Rattle.acorn_model.specs.declared.Kind.the-variants.{Sealing}
-use Rattle.acorn_model.specs.Calls.{refused, accepted}
+use Rattle.acorn_model.specs.Calls.{refused, done, accepted}
 use Rattle.acorn_model.specs.Machine.{fresh}
 use Rattle.acorn_model.specs.RefusalCases.{string}
 use Rattle.tape_model.specs.declared.Ticket.{Ticket}
 use Rattle.tape_model.specs.declared.Head.{Head}
 use Rattle.tape_model.specs.declared.WriterPhase.{WriterPhase}
 use Rattle.tape_model.specs.declared.WriterPhase.the-variants.{Fresh, Open, Closed}
-use Rattle.tape_model.specs.Ticket.{packTicket, unpackTicket, packHead}
+use Rattle.tape_model.specs.Ticket.{packTicket, unpackTicket, packTicketInto, packHead, unpackHead, packHeadInto}
 use Rattle.tape_model.specs.Tape.{ticketsLength, plainTotals, tapeLength, openRefusal}
 use Rattle.tape_model.specs.Writer.{PlainWriter, WriterCall, start, add, finish, refusal}
 use Rattle.tape_model.specs.Reader.{Reader, stays, readNext}
@@ -120,3 +120,13 @@ pub record ReaderCases : Type 0 where
   pub bad-first : readNext (readerWith lastByteC1 0) ≡ stays (readerWith lastByteC1 0) (refused 8)
   pub bad-second : readNext (readerWith (packTicket goodTicket ++ lastByteC1) 1) ≡ stays (readerWith (packTicket goodTicket ++ lastByteC1) 1) (refused 8)
   pub no-totals : (plainTotals (string 12) ≡ refused 2) × (plainTotals lastByteC1 ≡ refused 8)
+
+-- tickets and heads packed into lent bytes, and unpacked, by themselves
+pub record PackingCases : Type 0 where
+  pub bad-ticket : packTicketInto badTicket [] .answer ≡ refused 4
+  pub ticket-room : (packTicketInto goodTicket (string 12) .answer ≡ refused 6) × (packTicketInto goodTicket (string 13) .answer ≡ done 13)
+  pub bad-head : packHeadInto (headWith 0 2 1) [] .answer ≡ refused 3
+  pub head-room : (packHeadInto goodHead (string 8) .answer ≡ refused 6) × (packHeadInto goodHead (string 9) .answer ≡ done 9)
+  pub ticket-size : (unpackTicket (string 12) ≡ refused 2) × (unpackTicket (string 14) ≡ refused 2)
+  pub head-size : (unpackHead (string 8) ≡ refused 2) × (unpackHead (string 10) ≡ refused 2)
+  pub head-range : unpackHead (packHead (headWith 0 2 1)) ≡ refused 3
