@@ -5,6 +5,7 @@ pub mod Bytes
 pub mod Runs
 pub mod States
 pub mod StepCases
+pub mod RefusalCases
 pub mod Outputs
 pub mod Scheduled
 pub mod Agree

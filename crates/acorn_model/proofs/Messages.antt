@@ -1,13 +1,14 @@
 -- Whole sealing and opening: where no number applies, what a refused call leaves, and when a text is written.
 use mathlib.Core.Path.{_≡_, refl, sym, ap, ap₂, _∙_}
-use mathlib.Core.Bool.{Bool, true, false, not}
+use mathlib.Core.Bool.{Bool, true, false, not, _||_}
 use mathlib.Core.List.{List}
 use mathlib.Core.Logic.{_↔_}
-use Prim.Native.Nat.{ℕ, zero, suc, _+_, _-_, _≤_}
+use Prim.Native.Nat.{ℕ, zero, suc, _+_, _-_, _≤_, _<_}
 use native.Mathlib.Omega.{arith}
+use lib.Dec.{ltb}
 use lib.ListN.{length, take}
 use lib.Seq.{take-at, length-take-le}
-use borrow.Author.Tests.{eq-eqb, eqb-true, le-ltb, ltb-false, not-false}
+use borrow.Author.Tests.{eq-eqb, eqb-true, le-ltb, lt-ltb, ltb-false, not-false}
 use Rattle.acorn_model.specs.Bits.{AreBytes, _if_else_}
 use Rattle.acorn_model.specs.Stretches.{tagLength}
 use Rattle.acorn_model.specs.Calls.{Reply, refused, done, unlessRefused, writtenOver}
@@ -63,6 +64,10 @@ unwritten (suc n) a written out m e = refl
 written-same : (l k out : List ℕ) → length l ≡ length k → writtenOver l out ≡ writtenOver k out → l ≡ k
 unfolding writtenOver
 written-same l k out e f = sym (take-at l _ (length k) e) ∙ ap (take (length k)) f ∙ take-at k _ (length k) refl
+
+or-true : (b : Bool) → (b || true) ≡ true
+or-true true = refl
+or-true false = refl
 
 module _ (key nonce «data» : List ℕ) where
   -- ## Where no number applies
@@ -181,6 +186,24 @@ module _ (key nonce «data» : List ℕ) where
       = ap (λ (r : Result ℕ). take (length text + tagLength) (r .out)) (seals text out w room)
       ∙ take-at (sealed key nonce «data» text) _ (length text + tagLength) (sealed-length key nonce «data» text) in
       rw e (opens (sealed key nonce «data» text) text out′ (sealed-are-bytes key nonce «data» text) ht .1 (w, room′, refl))
+
+  pub seal-long-data : (text out : List ℕ) → length key ≡ 16 → length nonce ≡ 16 → byteLimit < length «data» → sealMessage key nonce «data» text out .answer ≡ refused 5
+  unfolding sealMessage sealRefusal resultOf unlessRefused
+  seal-long-data text out k n h = rw (sizes-right k n, lt-ltb _ _ h)
+
+  pub seal-long-text : (text out : List ℕ) → length key ≡ 16 → length nonce ≡ 16 → byteLimit < length text → sealMessage key nonce «data» text out .answer ≡ refused 5
+  unfolding sealMessage sealRefusal resultOf unlessRefused
+  seal-long-text text out k n h = rw (sizes-right k n, lt-ltb byteLimit (length text) h, or-true (ltb byteLimit (length «data»)))
+
+  pub open-long-data : (s out : List ℕ) → length key ≡ 16 → length nonce ≡ 16 → tagLength ≤ length s → byteLimit < length «data»
+      → openMessage key nonce «data» s out .answer ≡ refused 5
+  unfolding openMessage openRefusal resultOf unlessRefused
+  open-long-data s out k n t h = rw (sizes-right k n, le-ltb _ _ t, lt-ltb _ _ h)
+
+  pub open-long-text : (s out : List ℕ) → length key ≡ 16 → length nonce ≡ 16 → byteLimit + tagLength < length s → openMessage key nonce «data» s out .answer ≡ refused 5
+  unfolding openMessage openRefusal resultOf unlessRefused
+  open-long-text s out k n h =
+      rw (sizes-right k n, le-ltb (length s) tagLength (omega arith), lt-ltb byteLimit (length s - tagLength) (omega arith), or-true (ltb byteLimit (length «data»)))
 
   pub seal-refused : (n : ℕ) (text out : List ℕ) → sealMessage key nonce «data» text out .answer ≡ refused n → sealMessage key nonce «data» text out .out ≡ out
   unfolding sealMessage

@@ -5,13 +5,15 @@ use mathlib.Core.List.{List}
 use Prim.Native.Nat.{ℕ}
 use Rattle.acorn_model.specs.Stretches.{joined}
 use Rattle.acorn_model.specs.Paper.{ciphertext, tag, decrypted, newTag}
-use Rattle.acorn_model.specs.Laws.{PaperComputed, OpeningExact, StretchesAgree, MessageLaws}
+use Rattle.acorn_model.specs.Calls.{unlessRefused, refusedWith}
+use Rattle.acorn_model.specs.Machine.{Machine, Call, begin, dataCall, sealText, checkText, sealClose, checkClose, outputOf, call}
+use Rattle.acorn_model.specs.Laws.{PaperComputed, OpeningExact, StretchesAgree, MessageLaws, SentBack, SentBackLaws}
 use Rattle.acorn_model.proofs.Agree.{ciphertext-agrees, tag-agrees, decrypted-agrees, newTag-agrees}
 use Rattle.acorn_model.proofs.Pieces.{message-out, message-tag}
 use Rattle.acorn_model.proofs.Inverse.{decrypted-ciphertext, opens-with-tag, opens-exactly}
 use Rattle.acorn_model.proofs.Relation.{sealing-by-paper, sealing-only, opening-by-paper, opening-only}
 use Rattle.acorn_model.proofs.Whole.{opened-exactly}
-use Rattle.acorn_model.proofs.Messages.{seals, opens, opens-sealed, seal-refused, open-refused, sevens-alike}
+use Rattle.acorn_model.proofs.Messages.{seals, opens, opens-sealed, seal-long-data, seal-long-text, open-long-data, open-long-text, seal-refused, open-refused, sevens-alike}
 
 module _ (key nonce «data» : List ℕ) where
   pub paper-computed : PaperComputed key nonce «data»
@@ -53,7 +55,27 @@ module _ (key nonce «data» : List ℕ) where
         seals = seals key nonce «data»;
         opens-exactly = opens key nonce «data»;
         opens-sealed = opens-sealed key nonce «data»;
+        seal-long-data = seal-long-data key nonce «data»;
+        seal-long-text = seal-long-text key nonce «data»;
+        open-long-data = open-long-data key nonce «data»;
+        open-long-text = open-long-text key nonce «data»;
         seal-refused = seal-refused key nonce «data»;
         open-refused = open-refused key nonce «data»;
         sevens-alike = sevens-alike key nonce «data»;
       }
+
+sent-back : (m : Machine) (c : Call) → SentBack m c (outputOf c)
+unfolding call unlessRefused refusedWith
+sent-back m c n e = rw e
+
+pub sent-back-laws : (m : Machine) → SentBackLaws m
+unfolding outputOf
+sent-back-laws m =
+    record {
+      of-begin = λ key nonce. sent-back m (begin key nonce);
+      of-data = λ piece. sent-back m (dataCall piece);
+      of-seal-text = λ piece out. sent-back m (sealText piece out);
+      of-check-text = λ piece. sent-back m (checkText piece);
+      of-seal-close = λ out. sent-back m (sealClose out);
+      of-check-close = λ tag. sent-back m (checkClose tag);
+    }

@@ -23,7 +23,7 @@ stepHolds c = forEach (c .ca) (λ ca. forEach (c .cb) (λ cb. seen ca cb (c .m) 
 
 -- ## What it shows
 
-same : (a b : Bool) → Bool·beq a b ≡ true → a ≡ b
+pub same : (a b : Bool) → Bool·beq a b ≡ true → a ≡ b
 same true true h = refl
 same true false h = absurd (false≢true h)
 same false true h = absurd (false≢true h)

@@ -1,15 +1,15 @@
 -- What is shown of the cipher's definitions, for every key, nonce, data and text: the statements, to be read without their proofs.
 use mathlib.Core.Path.{_≡_}
 use mathlib.Core.Bool.{Bool, true, false}
-use mathlib.Core.List.{List}
+use mathlib.Core.List.{List, []}
 use mathlib.Core.Logic.{_↔_}
-use Prim.Native.Nat.{ℕ, _+_, _*_, _≤_}
+use Prim.Native.Nat.{ℕ, suc, _+_, _*_, _≤_, _<_}
 use lib.ListN.{length, take}
 use Rattle.acorn_model.specs.Bits.{Bits, AreBytes, bitsIn, bytes}
 use Rattle.acorn_model.specs.Paper.{Encrypts, ciphertext, tag, decrypted, newTag, Opens}
 use Rattle.acorn_model.specs.Stretches.{Stretch, tagLength, textOut, tagOf, through, textEnd, afterData, beforeFinal, textPieces, textPiecesOut, joined, afterDataPieces}
 use Rattle.acorn_model.specs.Calls.{refused, done, writtenOver}
-use Rattle.acorn_model.specs.Machine.{keyLength, nonceLength, byteLimit}
+use Rattle.acorn_model.specs.Machine.{Machine, Call, begin, dataCall, sealText, checkText, sealClose, checkClose, keyLength, nonceLength, byteLimit, refusal, call}
 use Rattle.acorn_model.specs.Message.{sealed, tagMatches, opened, sealMessage, openMessage}
 
 -- the same bits 0 to 292
@@ -83,6 +83,15 @@ module _ (key nonce «data» : List ℕ) where
     pub opens-sealed : (text out out′ : List ℕ) → AreBytes text → WithinLimits text → length text + tagLength ≤ length out → length text ≤ length out′
         → openMessage key nonce «data» (take (length text + tagLength) (sealMessage key nonce «data» text out .out)) out′
         ≡ record { answer = done (length text); out = writtenOver text out′ }
+    -- data or text over the limit is 5, whatever the output
+    pub seal-long-data : (text out : List ℕ) → length key ≡ keyLength → length nonce ≡ nonceLength → byteLimit < length «data»
+        → sealMessage key nonce «data» text out .answer ≡ refused 5
+    pub seal-long-text : (text out : List ℕ) → length key ≡ keyLength → length nonce ≡ nonceLength → byteLimit < length text
+        → sealMessage key nonce «data» text out .answer ≡ refused 5
+    pub open-long-data : (sealedBytes out : List ℕ) → length key ≡ keyLength → length nonce ≡ nonceLength → tagLength ≤ length sealedBytes
+        → byteLimit < length «data» → openMessage key nonce «data» sealedBytes out .answer ≡ refused 5
+    pub open-long-text : (sealedBytes out : List ℕ) → length key ≡ keyLength → length nonce ≡ nonceLength → byteLimit + tagLength < length sealedBytes
+        → openMessage key nonce «data» sealedBytes out .answer ≡ refused 5
     -- a refused call leaves its output as it was
     pub seal-refused : (n : ℕ) (text out : List ℕ) → sealMessage key nonce «data» text out .answer ≡ refused n → sealMessage key nonce «data» text out .out ≡ out
     pub open-refused : (n : ℕ) (sealedBytes out : List ℕ) → openMessage key nonce «data» sealedBytes out .answer ≡ refused n
@@ -91,3 +100,17 @@ module _ (key nonce «data» : List ℕ) where
     pub sevens-alike : (key′ nonce′ data′ sealedBytes sealedBytes′ out : List ℕ) → openMessage key nonce «data» sealedBytes out .answer ≡ refused 7
         → openMessage key′ nonce′ data′ sealedBytes′ out .answer ≡ refused 7
         → openMessage key nonce «data» sealedBytes out ≡ openMessage key′ nonce′ data′ sealedBytes′ out
+
+-- ## A call that is sent back
+
+-- where a number but 7 applies, the call answers it, and the machine and the output that it is lent ([] for none) stay as they are
+abbrev pub SentBack : Machine → Call → List ℕ → Type 0
+SentBack m c out = (n : ℕ) → refusal m c ≡ suc n → call m c ≡ record { next = m; answer = refused (suc n); out = out }
+
+pub record SentBackLaws (m : Machine) : Type 0 where
+  pub of-begin : (key nonce : List ℕ) → SentBack m (begin key nonce) []
+  pub of-data : (piece : List ℕ) → SentBack m (dataCall piece) []
+  pub of-seal-text : (piece out : List ℕ) → SentBack m (sealText piece out) out
+  pub of-check-text : (piece : List ℕ) → SentBack m (checkText piece) []
+  pub of-seal-close : (out : List ℕ) → SentBack m (sealClose out) out
+  pub of-check-close : (tag : List ℕ) → SentBack m (checkClose tag) []

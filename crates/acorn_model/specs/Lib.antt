@@ -7,4 +7,5 @@ pub mod Calls
 pub mod Machine
 pub mod Lists
 pub mod Message
+pub mod RefusalCases
 pub mod Laws

@@ -84,4 +84,8 @@ furtherCases =
     ∷ stepFrom (244 ∷ 23 ∷ []) either (292 is false ∷ [])
     ∷ stepFrom (244 ∷ 160 ∷ []) either (292 is false ∷ [])
     ∷ stepFrom (23 ∷ 160 ∷ []) (set false) (292 is false ∷ [])
+    -- ca and cb in f, each by itself
+    ∷ record { ones = 196 ∷ 0 ∷ []; m = false; ca = set true; cb = either; expected = 292 is true ∷ [] }
+    ∷ record { ones = 196 ∷ 0 ∷ []; m = false; ca = set false; cb = either; expected = 292 is false ∷ [] }
+    ∷ stepFrom (12 ∷ []) (set true) (292 is false ∷ [])
     ∷ []

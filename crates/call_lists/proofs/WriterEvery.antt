@@ -1,4 +1,4 @@
--- Every tape is written: start, an add for each of at most 5,000 valid tickets and finish are accepted throughout.
+-- Every tape is written: start, an add for each of at most 5,000 valid tickets and finish are accepted throughout. The 5,001st ticket is not.
 use mathlib.Core.Path.{_≡_, refl, sym, ap, _∙_, subst}
 use mathlib.Core.Bool.{true}
 use mathlib.Core.List.{List, [], _∷_, _++_}

@@ -18,12 +18,12 @@ use Rattle.acorn_model.specs.Machine.{Machine, Call, begin, dataCall, checkText
 use Rattle.acorn_model.specs.Machine.{phaseAllows, sizesRight, overLimit, outputShort, refusal}
 use Rattle.acorn_model.specs.Machine.{runThrough, enter, cleared, countData, countText, begun, dataTaken, dataEnded, textTaken, textEnded, closed, answered, wrote, verdict, work}
 use Rattle.acorn_model.specs.Laws.{WithinLimits}
-use Rattle.acorn_model.specs.Lists.{Ended, beginOf, dataOf, textOf, tagsOf, verdictOf, logged, joinLogs, nothing, logOf}
+use Rattle.acorn_model.specs.Lists.{Ended, Alike, beginOf, dataOf, textOf, tagsOf, verdictOf, logged, joinLogs, nothing, logOf}
 use Rattle.acorn_model.proofs.SameBytes.{same-bytes-refl, same-bytes-true}
 use Rattle.acorn_model.proofs.Outputs.{newTag-length}
 use Rattle.acorn_model.proofs.Proved.{stretches-agree}
 use Rattle.acorn_model.proofs.Refusals.{Passed, works}
-use Rattle.demands.specs.Examples.{SomeSession, Finish, Answers, EndAlike, sealingCalls, checkingCalls, refusedCalls, cutCalls, SessionExamples}
+use Rattle.demands.specs.Examples.{SomeSession, Finish, Answers, EndAlike, sealingCalls, checkingCalls, refusedCalls, cutCalls, cutCheckingCalls, SessionExamples}
 use Rattle.demands.proofs.Sessions.{session-demand}
 use Rattle.demands.proofs.Exist.{sessions-exist}
 use Rattle.demands.proofs.AllPass.{AllPass, all-same}
@@ -166,13 +166,76 @@ module _ (key nonce «data» first second out firstOut secondOut tagOut : List �
     ),
   )
 
-  cuts : SomeSession Sealing inOne (λ es m. Ended m × SomeSession Sealing inTwo (EndAlike es))
+  cuts : SomeSession Sealing inOne (λ es m. Ended m × SomeSession Sealing inTwo (EndAlike Sealing es))
   unfolding entries handedOn work wrote answered closed enter logOf logged joinLogs nothing beginOf dataOf textOf tagsOf verdictOf
   cuts =
-      on-working Sealing inOne (λ es m. Ended m × SomeSession Sealing inTwo (EndAlike es)) (sealing-passes key nonce «data» (first ++ second) l out tagOut room roomTag) (
+      on-working Sealing inOne (λ es m. Ended m × SomeSession Sealing inTwo (EndAlike Sealing es)) (sealing-passes key nonce «data» (first ++ second) l out tagOut room roomTag) (
         refl,
-        on-working Sealing inTwo (EndAlike (entries work (fresh Sealing) inOne)) cut-passes
+        on-working Sealing inTwo (EndAlike Sealing (entries work (fresh Sealing) inOne)) cut-passes
             (refl, record { begins = refl; «data» = refl; text = append-assoc first second []; tags = tt }),
+      )
+
+module _ (key nonce «data» first second tag : List ℕ) (l : WithinLimits key nonce «data» (first ++ second)) (k : length tag ≡ tagLength) where
+  abbrev checkOne : List Call
+  checkOne = checkingCalls key nonce «data» (first ++ second) tag
+
+  abbrev checkTwo : List Call
+  checkTwo = cutCheckingCalls key nonce «data» first second tag
+
+  -- the calls before the close
+  abbrev firstsOne : List Call
+  firstsOne = begin key nonce ∷ dataCall «data» ∷ checkText (first ++ second) ∷ []
+
+  abbrev firstsTwo : List Call
+  firstsTwo = begin key nonce ∷ dataCall «data» ∷ checkText first ∷ checkText second ∷ []
+
+  cut-checks : Passing Checking checkTwo
+  unfolding fresh work wrote begun dataTaken dataEnded textTaken enter runThrough cleared countData countText phaseAllows sizesRight overLimit outputShort
+  cut-checks = (
+    record { phase = refl; sizes = right-sizes key nonce «data» (first ++ second) l; limit = refl; output = refl },
+    (
+      record { phase = refl; sizes = refl; limit = below (length «data») (l .data-limit); output = refl },
+      (
+        record { phase = refl; sizes = refl; limit = below (length first) (omega (arith, l .text-limit, length-append first second)); output = refl },
+        (
+          record {
+            phase = refl;
+            sizes = refl;
+            limit = le-ltb byteLimit (0 + length first + length second) (omega (arith, l .text-limit, length-append first second));
+            output = refl;
+          },
+          (
+            record { phase = refl; sizes = eq-eqb (length tag) tagLength k; limit = refl; output = refl },
+            tt,
+          ),
+        ),
+      ),
+    ),
+  )
+
+  -- the close of a list, whose answer goes by the tag
+  abbrev closing : Bool → Machine → List (Entry Call)
+  closing b m = record { call = checkClose tag; answer = verdict b m; out = [] } ∷ []
+
+  alike : (b b′ : Bool) (m m′ : Machine)
+      → Alike Checking (logOf (entries work (fresh Checking) firstsOne ++ closing b m)) (logOf (entries work (fresh Checking) firstsTwo ++ closing b′ m′))
+  unfolding entries work wrote answered verdict logOf logged joinLogs nothing beginOf dataOf textOf tagsOf verdictOf
+  alike true true m m′ = record { begins = refl; «data» = refl; text = append-assoc first second []; tags = refl }
+  alike true false m m′ = record { begins = refl; «data» = refl; text = append-assoc first second []; tags = refl }
+  alike false true m m′ = record { begins = refl; «data» = refl; text = append-assoc first second []; tags = refl }
+  alike false false m m′ = record { begins = refl; «data» = refl; text = append-assoc first second []; tags = refl }
+
+  checking-cuts : SomeSession Checking checkOne (λ es m. Ended m × SomeSession Checking checkTwo (EndAlike Checking es))
+  unfolding entries handedOn work closed enter
+  checking-cuts =
+      let m = handedOn work (fresh Checking) firstsOne in
+      let m′ = handedOn work (fresh Checking) firstsTwo in
+      on-working Checking checkOne (λ es m. Ended m × SomeSession Checking checkTwo (EndAlike Checking es)) (checking-passes key nonce «data» (first ++ second) l tag k) (
+        refl,
+        on-working Checking checkTwo (EndAlike Checking (entries work (fresh Checking) checkOne)) cut-checks (
+          refl,
+          alike (sameBytes tag (tagOf (textEnded m .state))) (sameBytes tag (tagOf (textEnded m′ .state))) (closed m) (closed m′),
+        ),
       )
 
 -- ## Sizes and tags that there are
@@ -197,6 +260,7 @@ session-examples = record {
   seven = λ key nonce «data» cipher tag l. seven key nonce «data» cipher l tag;
   refusals = refusals;
   cuts = cuts;
+  checking-cuts = checking-cuts;
   sizes = record { key-size = refl; nonce-size = refl; data-limit = omega arith; text-limit = omega arith };
   another = another;
 }

@@ -63,9 +63,9 @@ Finish es m = AllAccepted es × Ended m
 abbrev pub Answers : {C M : Type 0} → List (Reply Work) → List (Entry C) → M → Type 0
 Answers answers es m = map (λ e. e .answer) es ≡ answers
 
--- the session ends, and its list is alike to another sealing session's
-abbrev pub EndAlike : List (Entry Call) → List (Entry Call) → Machine → Type 0
-EndAlike es es′ m′ = Ended m′ × Alike Sealing (logOf es) (logOf es′)
+-- the session ends, and its list is alike to another of its kind
+abbrev pub EndAlike : Kind → List (Entry Call) → List (Entry Call) → Machine → Type 0
+EndAlike kind es es′ m′ = Ended m′ × Alike kind (logOf es) (logOf es′)
 
 abbrev pub sealingCalls : (key nonce «data» text out tagOut : List ℕ) → List Call
 sealingCalls key nonce «data» text out tagOut = begin key nonce ∷ dataCall «data» ∷ sealText text out ∷ sealClose tagOut ∷ []
@@ -79,6 +79,9 @@ refusedCalls = dataCall [] ∷ begin [] [] ∷ begin (replicate 16 0) (replicate
 abbrev pub cutCalls : (key nonce «data» first second firstOut secondOut tagOut : List ℕ) → List Call
 cutCalls key nonce «data» first second firstOut secondOut tagOut =
     begin key nonce ∷ dataCall «data» ∷ sealText first firstOut ∷ sealText second secondOut ∷ sealClose tagOut ∷ []
+
+abbrev pub cutCheckingCalls : (key nonce «data» first second tag : List ℕ) → List Call
+cutCheckingCalls key nonce «data» first second tag = begin key nonce ∷ dataCall «data» ∷ checkText first ∷ checkText second ∷ checkClose tag ∷ []
 
 pub record SessionExamples : Type 0 where
   -- begin, data, text and close of a sealing session, with room for what they write, are accepted and end it
@@ -97,7 +100,11 @@ pub record SessionExamples : Type 0 where
   pub cuts : (key nonce «data» first second out firstOut secondOut tagOut : List ℕ) → WithinLimits key nonce «data» (first ++ second)
       → length (first ++ second) ≤ length out → length first ≤ length firstOut → length second ≤ length secondOut → tagLength ≤ length tagOut
       → SomeSession Sealing (sealingCalls key nonce «data» (first ++ second) out tagOut)
-      (λ es m. Ended m × SomeSession Sealing (cutCalls key nonce «data» first second firstOut secondOut tagOut) (EndAlike es))
+      (λ es m. Ended m × SomeSession Sealing (cutCalls key nonce «data» first second firstOut secondOut tagOut) (EndAlike Sealing es))
+  -- and so do a checking session's two lists, with whatever tag of 16 bytes
+  pub checking-cuts : (key nonce «data» first second tag : List ℕ) → WithinLimits key nonce «data» (first ++ second) → length tag ≡ tagLength
+      → SomeSession Checking (checkingCalls key nonce «data» (first ++ second) tag)
+      (λ es m. Ended m × SomeSession Checking (cutCheckingCalls key nonce «data» first second tag) (EndAlike Checking es))
   -- there are strings within the limits, and for every tag there is another
   pub sizes : WithinLimits (replicate 16 0) (replicate 16 0) [] (0 ∷ [])
   pub another : (T : List ℕ) → (tag : List ℕ) × AreBytes tag × (length tag ≡ tagLength) × (tag ≡ T → ⊥)

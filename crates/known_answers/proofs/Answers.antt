@@ -3,7 +3,7 @@ use mathlib.Core.List.{[], _∷_}
 use Rattle.acorn_model.specs.Bits.{bit, bitsIn, number, bytes}
 use Rattle.acorn_model.specs.Step.{_⊕=_and_, lfsrUpdate, maj, ch, ksg128, fbk128, keystreamBit, feedbackBit}
 use Rattle.acorn_model.specs.Stretches.{startBit}
-use Rattle.known_answers.specs.Answers.{AllGiven, published, sixteenZeros}
+use Rattle.known_answers.specs.Answers.{AllGiven, published, sixteenZeros, countedKey, countedNonce, sixteenOnes, CiphertextGiven}
 use Rattle.known_answers.proofs.StepNumbers.{joinAt, stepN, runN, keystreamN}
 use Rattle.known_answers.proofs.Messages.{throughN, afterDataN, textKeystreamN, finalKeystreamN, ciphertext-computes, tag-computes}
 
@@ -16,3 +16,7 @@ published-given = (
     tt,
   ),
 )
+
+pub ciphertext-given : CiphertextGiven
+unfolding afterDataN textKeystreamN throughN runN keystreamN stepN joinAt lfsrUpdate _⊕=_and_ maj ch ksg128 fbk128 keystreamBit feedbackBit startBit bit bitsIn number bytes
+ciphertext-given = ciphertext-computes countedKey countedNonce sixteenOnes sixteenOnes

@@ -2,7 +2,7 @@
 use mathlib.Core.Path.{_≡_, refl, sym, ap, ap₂, _∙_, subst}
 use mathlib.Core.Bool.{Bool, true, false, not}
 use mathlib.Core.List.{List, [], _∷_, _++_}
-use Prim.Native.Nat.{ℕ, zero, suc, _+_, _*_, _/_, _≤_}
+use Prim.Native.Nat.{ℕ, zero, suc, _+_, _*_, _/_, _≤_, _<_}
 use native.Mathlib.Omega.{arith}
 use lib.Dec.{leb}
 use lib.ListN.{length, take, drop}
@@ -10,14 +10,16 @@ use lib.Seq.{take-nil, take-at, drop-drop}
 use denote.Ref.{RefT, now}
 use Rattle.acorn_model.specs.Bits.{_if_else_}
 use Rattle.acorn_model.specs.Calls.{Reply, refused, done, writtenOver}
+use Rattle.acorn_model.specs.RefusalCases.{string}
 use Rattle.tape_model.specs.declared.Ticket.{Ticket}
 use Rattle.tape_model.specs.declared.NextTicket.{NextTicket}
 use Rattle.tape_model.specs.declared.NextTicket.the-variants.{Refused, Done, End}
 use Rattle.tape_model.specs.declared.OpenedTape.the-variants.{Done as TapeDone}
-use Rattle.tape_model.specs.Ticket.{unpackTicket}
+use Rattle.tape_model.specs.Ticket.{ordered, valuesRule, packTicket, unpackTicket}
 use Rattle.tape_model.specs.Tape.{packTickets, ticketsLength, ticketThen, isRefused, unpackTickets, ticketsIn, totalNet, Totals, ticketCount, plainBytes, openTape, openedReply}
 use Rattle.tape_model.specs.Reader as model
 use Rattle.tape_model.specs.Reader.{Reading, ticket, atEnd, ReadOutcome, stays, handedOut, readerOver, readNext, nextReply}
+use Rattle.tape_model.specs.RefusalCases.{goodTicket, lastByteC1}
 use Rattle.tape_model.specs.Laws.{readings, readerAfter}
 use Rattle.tape_model.proofs.Tapes.{tickets-length, tickets-unpack, length-allowed, tapes-come-back}
 use Rattle.tape_model.proofs.Unpacking.{unpacked-count, told}
@@ -186,6 +188,23 @@ module _ (bytes : RefT (List ℕ)) where
             (ap₂ unpackTickets c plain ∙ u),
       )
 
+  bad-ticket : (ts : List Ticket) → ticketsLength (length s) ≡ true → length ts < length s / 13 → unpackTickets (length ts) s ≡ done ts
+      → isRefused (unpackTicket (take 13 (drop (13 * length ts) s))) ≡ true → HandsOut bytes ts (refused 8)
+  bad-ticket ts sized here u bad =
+      let x = number (unpackTicket (take 13 (drop (13 * length ts) s))) bad in
+      begins ts (refused 8) sized (omega arith) u (sym (not-unpacked s (length ts) true (sym sized) refl 13 here refl (x .0) (x .1)))
+
+  last-byte-C1 : s ≡ packTicket goodTicket ++ lastByteC1 → HandsOut bytes (goodTicket ∷ []) (refused 8)
+  unfolding ticketsLength unpackTickets unpackTicket packTicket valuesRule ordered
+  last-byte-C1 e =
+      let n : length s ≡ 26 = ap length e in
+      bad-ticket (goodTicket ∷ []) (ap (λ (l : List ℕ). ticketsLength (length l)) e) (omega arith) (ap (unpackTickets 1) e)
+      (ap (λ (l : List ℕ). isRefused (unpackTicket (take 13 (drop 13 l)))) e)
+
+  too-short : s ≡ string 12 → HandsOut bytes [] (refused 2)
+  unfolding ticketsLength
+  too-short e = hands-out [] (refused 2) (sym (wrong-size s 0 false (sym (ap (λ (l : List ℕ). ticketsLength (length l)) e)) refl))
+
   laws : ReadingLaws bytes
   unfolding writtenOver
   laws =
@@ -201,9 +220,9 @@ module _ (bytes : RefT (List ℕ)) where
             whole ts (ap length plain ∙ tickets-length ts) n (ap (unpackTickets (length ts)) plain ∙ tickets-unpack ts v);
         opened = opened;
         wrong-size = λ wrong. hands-out [] (refused 2) (sym (wrong-size s 0 false (sym wrong) refl));
-        bad-ticket = λ ts sized here u bad.
-            let x = number (unpackTicket (take 13 (drop (13 * length ts) s))) bad in
-            begins ts (refused 8) sized (omega arith) u (sym (not-unpacked s (length ts) true (sym sized) refl 13 here refl (x .0) (x .1)));
+        bad-ticket = bad-ticket;
+        last-byte-C1 = last-byte-C1;
+        too-short = too-short;
       }
 
 pub reading-laws : (bytes : RefT (List ℕ)) → ReadingLaws bytes

@@ -2,19 +2,21 @@
 -- tape's tickets in turn, and then is at the end for good; and what it does over other bytes.
 use mathlib.Core.Path.{_≡_}
 use mathlib.Core.Bool.{true, false}
-use mathlib.Core.List.{List, [], _∷_}
+use mathlib.Core.List.{List, [], _∷_, _++_}
 use Prim.Native.Nat.{ℕ, zero, suc, _*_, _/_, _≤_, _<_}
 use lib.ListN.{length, take, drop}
 use denote.Ref.{RefT, now}
 use Rattle.acorn_model.specs.Calls.{Reply, refused, done}
 use Rattle.acorn_model.specs.Machine.{keyLength}
+use Rattle.acorn_model.specs.RefusalCases.{string}
 use Rattle.tape_model.specs.declared.Ticket.{Ticket}
 use Rattle.tape_model.specs.declared.Head.{Head}
 use Rattle.tape_model.specs.declared.OpenedTape.{OpenedTape}
 use Rattle.tape_model.specs.declared.OpenedTape.the-variants.{Done}
-use Rattle.tape_model.specs.Ticket.{ticketLength, unpackTicket, headRule}
+use Rattle.tape_model.specs.Ticket.{ticketLength, packTicket, unpackTicket, headRule}
 use Rattle.tape_model.specs.Tape.{ticketLimit, tapeOf, ticketsLength, isRefused, unpackTickets, totalNet, openTape, openedReply}
 use Rattle.tape_model.specs.Reader.{Reading, ticket, atEnd, readerOver, nextReply}
+use Rattle.tape_model.specs.RefusalCases.{goodTicket, lastByteC1}
 use Rattle.tape_model.specs.Laws.{Valid, readings, readerAfter}
 use Rattle.reader.specs.declared.Reader.{Reader}
 use Rattle.reader.specs.declared.ReaderReply.{ReaderReply}
@@ -75,3 +77,7 @@ pub record ReadingLaws (bytes : RefT (List ℕ)) : Type 0 where
       → unpackTickets (length before) (now bytes) ≡ done before
       → isRefused (unpackTicket (take ticketLength (drop (ticketLength * length before) (now bytes)))) ≡ true
       → HandsOut bytes before (refused 8)
+  -- document 01's example behind a good ticket: that ticket, and then 8
+  pub last-byte-C1 : now bytes ≡ packTicket goodTicket ++ lastByteC1 → HandsOut bytes (goodTicket ∷ []) (refused 8)
+  -- 12 bytes: 2
+  pub too-short : now bytes ≡ string 12 → HandsOut bytes [] (refused 2)

@@ -6,6 +6,9 @@ pub mod Tickets
 pub mod Tapes
 pub mod Cases
 pub mod RefusalExamples
+pub mod FieldCases
+pub mod RefusalCases
+pub mod SentBack
 pub mod Unpacking
 pub mod Opening
 pub mod Listing

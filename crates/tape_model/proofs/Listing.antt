@@ -1,7 +1,7 @@
 -- The listing's numbers are decimal digits that read back as the number, and document 01's example comes out.
 use mathlib.Core.Path.{_≡_, refl, sym, ap, _∙_}
 use mathlib.Core.Bool.{Bool, true, false, not, _&&_}
-use mathlib.Core.List.{List, [], _∷_, _++_}
+use mathlib.Core.List.{List, [], _∷_, _++_, append-assoc}
 use Prim.Native.Nat.{ℕ, zero, suc, _+_, _-_, _*_, _/_, _%_, _^_, _≤_, _<_}
 use native.Mathlib.Nat.{pow-suc}
 use native.Mathlib.Omega.{arith}
@@ -9,9 +9,10 @@ use lib.Dec.{ltb, eqb}
 use lib.ListN.{length, getD, take, drop, length-append, length-take}
 use borrow.Author.Tests.{ltb-true, ltb-false, lt-ltb, le-ltb, ne-eqb}
 use Rattle.acorn_model.specs.Bits.{_if_else_}
+use Rattle.tape_model.specs.declared.Ticket.{Ticket}
 use Rattle.tape_model.specs.Ticket.{net}
 use Rattle.acorn_model.specs.Machine.{keyLength}
-use Rattle.tape_model.specs.Tape.{totalNet, tapeLength, openRefusal}
+use Rattle.tape_model.specs.Tape.{ticketsLength, totalNet, tapeLength, openRefusal}
 use Rattle.tape_model.specs.Listing.{decimalBelow, decimal, numbers, headLine, ticketLine, ticketLines, totalLine, refusedLine, listed, listingUnless, listing, printed}
 use Rattle.tape_model.specs.Laws.{valueAfter, ListingLaws}
 
@@ -107,6 +108,15 @@ value-of-digits (suc k) n h =
     (λ l. value-last 0 (0x30 + n % 10) (decimalBelow k (n / 10))
     ∙ ap (λ (x : ℕ). 10 * x + (0x30 + n % 10 - 0x30)) (value-of-digits k (n / 10) (omega (arith, pow-suc 10 k))) ∙ omega arith)
 
+-- ## Positions
+
+positions : (p : ℕ) (ts us : List Ticket) → ticketLines p (ts ++ us) ≡ ticketLines p ts ++ ticketLines (p + length ts) us
+unfolding ticketLines
+positions p [] us = ap (λ (n : ℕ). ticketLines n us) {x = p} {y = p + 0} (omega arith)
+positions p (t ∷ ts) us =
+    ap (_++_ (ticketLine p t)) (positions (p + 1) ts us ∙ ap (λ (n : ℕ). ticketLines (p + 1) ts ++ ticketLines n us) {x = p + 1 + length ts} {y = p + suc (length ts)} (omega arith))
+    ∙ sym (append-assoc (ticketLine p t) (ticketLines (p + 1) ts) (ticketLines (p + suc (length ts)) us))
+
 -- ## A key cut short
 
 short-key : (input : List ℕ) → length input < keyLength → printed input ≡ refusedLine 2
@@ -121,14 +131,16 @@ short-key input h =
 -- ## All of it
 
 pub listing-laws : ListingLaws
-unfolding listing listingUnless listed headLine ticketLines ticketLine totalLine numbers decimalBelow net totalNet
+unfolding printed listing listingUnless listed headLine ticketLines ticketLine totalLine refusedLine numbers decimalBelow net totalNet openRefusal tapeLength ticketsLength
 listing-laws =
     record {
       digits = all-digits 20;
       leading = no-leading-zero 20;
       value = value-of-digits 20;
       zero-digit = decimal-one 0 (omega arith);
+      positions = positions;
       short-key = short-key;
       refusal = λ key tape n e. ap (λ (x : ℕ). listingUnless x key tape) e;
       example = refl;
+      refused-example = refl;
     }

@@ -26,8 +26,7 @@ use Rattle.tape_model.specs.Ticket.{form1, ticketLength, ordered, values
 use Rattle.tape_model.specs.Tape.{ticketLimit, nonceOf, packTickets, tapeOf, ticketsLength, unpackTickets, isRefused, emptyTapeLength, tapeLength, headBytes, sealedBytes, ticketCount, plainBytes, openRefusal, openTape}
 use Rattle.tape_model.specs.Writer as plain
 use Rattle.tape_model.specs.Reader.{readerOver, readNext, handedOut}
-use Rattle.tape_model.specs.RefusalExamples.{AllGive, rows, lastByteC1, bit7Turned, lastBitTurned, RefusalExamples}
-use Rattle.tape_model.proofs.Ranges.{pack-bytes}
+use Rattle.tape_model.specs.RefusalExamples.{AllGive, rows, bit7Turned, lastBitTurned, RefusalExamples}
 use Rattle.tape_model.proofs.Tickets.{head-inverse, head-length}
 use Rattle.tape_model.proofs.Tapes.{tickets-length, tickets-bytes, length-allowed}
 
@@ -38,7 +37,7 @@ unfolding unlessRefused refusedWith handedOn fresh phaseAllows sizesRight overLi
     runThrough enter cleared countData begun dataTaken textTaken resultOf sealRefusal sealMessage
     plain.writerCall plain.refusal plain.phaseAllows plain.keyRight plain.headRight plain.ticketRight plain.tapeFull plain.outputShort
     ordered valuesRule ticketRule unpackTicket headRule unpackHead ticketsLength tapeLength openTape openRefusal readerOver readNext handedOut
-table = (refl, (refl, (refl, (refl, (refl, (refl, (refl, (refl, (refl, (refl, (refl, (refl, (refl, (refl, (refl, (refl, (refl, (refl, tt))))))))))))))))))
+table = (refl, (refl, (refl, (refl, (refl, (refl, (refl, (refl, tt))))))))
 
 -- ## A last bit turned
 
@@ -112,10 +111,6 @@ module _ (key nonce «data» text : List ℕ) (b : AreBytes text) where
 
 -- ## Tapes
 
--- they are the values of case (h) packed, with 1 in the spare bits
-c1-bytes : AreBytes lastByteC1
-c1-bytes = pack-bytes (widths form1) ticketLength (1 ∷ 5 ∷ 2 ∷ 3 ∷ 4 ∷ 3600 ∷ 4200 ∷ 250000 ∷ 110000 ∷ 1 ∷ [])
-
 past-6 : (a b c : Bool) (rest : ℕ) → a ≡ true → b ≡ false → c ≡ false → (2 if not a else 3 if b else 6 if c else rest) ≡ rest
 past-6 a b c rest p q r = rw (p, q, r)
 
@@ -157,10 +152,6 @@ module _ (key : List ℕ) (head : Head) (k : length key ≡ keyLength) (h : head
     unfolding openTape resultOf unlessRefused
     answer-7 m = rw (left, m)
 
-    answer-8 : tagMatches key (nonceOf H) H S ≡ true → isRefused (unpackTickets n (opened key (nonceOf H) H S)) ≡ true → openTape key behind out .answer ≡ refused 8
-    unfolding openTape resultOf unlessRefused
-    answer-8 m u = rw (left, m, u)
-
   tape-tag : (tickets : List Ticket) (out : List ℕ) → length tickets ≤ ticketLimit → ticketLength * length tickets ≤ length out
       → openTape key (lastBitTurned (tapeOf key head tickets)) out .answer ≡ refused 7
   unfolding tapeOf
@@ -171,20 +162,10 @@ module _ (key : List ℕ) (head : Head) (k : length key ≡ keyLength) (h : head
       ∙ answer-7 (turned key (nonceOf H) H text (tickets-bytes ts)) (length ts) (omega (arith, turned-length (sealed key (nonceOf H) H text))) few out room
       (no-match key (nonceOf H) H text (tickets-bytes ts))
 
-  last-byte : (out : List ℕ) → ticketLength ≤ length out → openTape key (H ++ sealed key (nonceOf H) H lastByteC1) out .answer ≡ refused 8
-  unfolding unpackTickets unpackTicket valuesRule ordered
-  last-byte out room =
-      let S : List ℕ = sealed key (nonceOf H) H lastByteC1 in
-      let back = opening-exact key (nonceOf H) H .whole S lastByteC1 (sealed-are-bytes key (nonceOf H) H lastByteC1) c1-bytes .1 refl in
-      answer-8 S 1 (sealed-length key (nonceOf H) H lastByteC1) (omega arith) out room (back .0) (ap (λ (l : List ℕ). isRefused (unpackTickets 1 l)) (back .1))
-
 pub refusal-examples : RefusalExamples
-unfolding tapeLength ticketsLength
 refusal-examples =
     record {
       table = table;
-      tape-sizes = (refl, refl, refl);
       message-tag = λ key nonce d text out b. message-tag key nonce d text b out;
       tape-tag = λ key head ts out k h. tape-tag key head k h ts out;
-      last-byte = λ key head out k h. last-byte key head k h out;
     }

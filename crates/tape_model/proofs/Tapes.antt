@@ -9,7 +9,7 @@ use lib.ListN.{length, take, drop, replicate, length-append, length-replicate}
 use lib.Seq.{take-at, drop-at, drop-drop}
 use borrow.Author.Tests.{le-leb, lt-leb, le-ltb, eq-eqb}
 use Rattle.acorn_model.specs.Bits.{_if_else_, AreBytes}
-use Rattle.acorn_model.specs.Calls.{Reply, done, accepted, unlessRefused, writtenOver}
+use Rattle.acorn_model.specs.Calls.{refused, Reply, done, accepted, unlessRefused, writtenOver}
 use Rattle.acorn_model.specs.Machine.{keyLength, nonceLength}
 use Rattle.acorn_model.specs.Message.{resultOf, sealed, tagMatches, opened}
 use Rattle.acorn_model.proofs.Bytes.{append-are-bytes}
@@ -17,11 +17,14 @@ use Rattle.acorn_model.proofs.Outputs.{sealed-length, sealed-are-bytes}
 use Rattle.acorn_model.proofs.Proved.{opening-exact}
 use Rattle.tape_model.specs.declared.Ticket.{Ticket}
 use Rattle.tape_model.specs.declared.Head.{Head}
-use Rattle.tape_model.specs.Ticket.{ticketLength, ticketRule, packTicket, unpackTicket, headLength, headRule, packHead, unpackHead}
-use Rattle.tape_model.specs.Tape.{ticketLimit, nonceOf, packTickets, tapeOf, ticketsLength, ticketThen, unpackTickets, isRefused, ticketsIn, totalNet, emptyTapeLength, tapeLength, headBytes, sealedBytes, ticketCount, plainBytes, openRefusal, openTape}
-use Rattle.tape_model.specs.Reader.{ticket, atEnd, Reader, readerOver, readNext, stays, handedOut}
+use Rattle.tape_model.specs.Format.{widths}
+use Rattle.tape_model.specs.Ticket.{form1, ticketLength, ordered, valuesRule, ticketRule, packTicket, unpackTicket, headLength, headRule, packHead, unpackHead}
+use Rattle.tape_model.specs.Tape.{ticketLimit, nonceOf, packTickets, tapeOf, ticketsLength, ticketThen, unpackTickets, isRefused, ticketsIn, totalNet, totalsOf, plainTotals, emptyTapeLength, tapeLength, headBytes, sealedBytes, ticketCount, plainBytes, openRefusal, openTape}
+use Rattle.tape_model.specs.Reader.{Reading, ticket, atEnd, Reader, readerOver, readNext, stays, handedOut}
 use Rattle.tape_model.specs.Listing.{headLine, ticketLines, totalLine, listed, listingUnless, listing, printed}
-use Rattle.tape_model.specs.Laws.{Valid, readings, readerAfter, asReadings, TapeLaws, TapesComeBack}
+use Rattle.tape_model.specs.Laws.{Valid, readings, readerAfter, asReadings, TapeLaws, TapesComeBack, tapeWithText, BadTickets}
+use Rattle.tape_model.specs.RefusalCases.{goodHead, lastByteC1}
+use Rattle.tape_model.proofs.Ranges.{pack-bytes}
 use Rattle.tape_model.proofs.Tickets.{ticket-inverse, head-inverse, ticket-length, ticket-bytes, head-length}
 
 -- ## Plain bytes
@@ -117,6 +120,43 @@ ends-from n p (t ∷ ts) s v b =
 
 -- ## Opening
 
+-- a tape with the plain bytes `text`
+module _ (key : List ℕ) (head : Head) (text : List ℕ) where
+  abbrev withText : List ℕ
+  withText = tapeWithText key head text
+
+  abbrev nonce : List ℕ
+  nonce = nonceOf (packHead head)
+
+  text-size : length withText ≡ 25 + length text
+  text-size = omega (arith, length-append (packHead head) (sealed key nonce (packHead head) text), head-length head, sealed-length key nonce (packHead head) text)
+
+  head-part : headBytes withText ≡ packHead head
+  head-part = take-at (packHead head) (sealed key nonce (packHead head) text) headLength (head-length head)
+
+  sealed-part : sealedBytes withText ≡ sealed key nonce (packHead head) text
+  sealed-part = drop-at (packHead head) (sealed key nonce (packHead head) text) headLength (head-length head)
+
+  text-head : headRule head ≡ true → unpackHead (headBytes withText) ≡ done head
+  text-head h = ap unpackHead head-part ∙ head-inverse .unpack-pack head h
+
+  text-lengths : length key ≡ keyLength → ticketsLength (length text) ≡ true → (eqb (length key) keyLength && tapeLength (length withText)) ≡ true
+  unfolding tapeLength
+  text-lengths k n =
+      ap₂ _&&_ (eq-eqb (length key) keyLength k)
+      (ap₂ _&&_ (le-leb emptyTapeLength (length withText) (omega (arith, text-size))) (ap ticketsLength {x = length withText - emptyTapeLength} {y = length text} (omega (arith, text-size)) ∙ n))
+
+  module _ (bytes : AreBytes text) where
+    both : (tagMatches key nonce (packHead head) (sealed key nonce (packHead head) text) ≡ true) × (opened key nonce (packHead head) (sealed key nonce (packHead head) text) ≡ text)
+    both = opening-exact key nonce (packHead head) .whole (sealed key nonce (packHead head) text) text (sealed-are-bytes key nonce (packHead head) text) bytes .1 refl
+
+    text-matches : tagMatches key (nonceOf (headBytes withText)) (headBytes withText) (sealedBytes withText) ≡ true
+    text-matches = ap₂ (λ (a b : List ℕ). tagMatches key (nonceOf a) a b) head-part sealed-part ∙ both .0
+
+    text-plain : plainBytes key withText ≡ text
+    unfolding plainBytes
+    text-plain = ap₂ (λ (a b : List ℕ). opened key (nonceOf a) a b) head-part sealed-part ∙ both .1
+
 -- no number of the chain applies
 none-applies : (a b c d e : Bool) → a ≡ false → b ≡ false → c ≡ false → d ≡ false → e ≡ false
     → (2 if a else 3 if b else 6 if c else 7 if d else 8 if e else accepted) ≡ accepted
@@ -126,50 +166,31 @@ module _ (key : List ℕ) (head : Head) (ts : List Ticket) (k : length key ≡ k
   abbrev tape : List ℕ
   tape = tapeOf key head ts
 
-  abbrev nonce : List ℕ
-  nonce = nonceOf (packHead head)
-
   size : length tape ≡ 25 + 13 * length ts
   unfolding tapeOf
-  size = omega (
-    arith,
-    length-append (packHead head) (sealed key nonce (packHead head) (packTickets ts)),
-    head-length head,
-    sealed-length key nonce (packHead head) (packTickets ts),
-    tickets-length ts,
-  )
-
-  head-part : headBytes tape ≡ packHead head
-  unfolding tapeOf
-  head-part = take-at (packHead head) (sealed key nonce (packHead head) (packTickets ts)) headLength (head-length head)
-
-  sealed-part : sealedBytes tape ≡ sealed key nonce (packHead head) (packTickets ts)
-  unfolding tapeOf
-  sealed-part = drop-at (packHead head) (sealed key nonce (packHead head) (packTickets ts)) headLength (head-length head)
+  size = omega (arith, text-size key head (packTickets ts), tickets-length ts)
 
   count : ticketCount tape ≡ length ts
   count = omega (arith, size)
 
-  both : (tagMatches key nonce (packHead head) (sealed key nonce (packHead head) (packTickets ts)) ≡ true) × (opened key nonce (packHead head) (sealed key nonce (packHead head) (packTickets ts)) ≡ packTickets ts)
-  both =
-      opening-exact key nonce (packHead head) .whole (sealed key nonce (packHead head) (packTickets ts)) (packTickets ts)
-      (sealed-are-bytes key nonce (packHead head) (packTickets ts)) (tickets-bytes ts) .1 refl
-
   plain : plainBytes key tape ≡ packTickets ts
-  unfolding plainBytes
-  plain = ap₂ (λ (a b : List ℕ). opened key (nonceOf a) a b) head-part sealed-part ∙ both .1
+  unfolding tapeOf
+  plain = text-plain key head (packTickets ts) (tickets-bytes ts)
 
   unpacks : unpackTickets (ticketCount tape) (plainBytes key tape) ≡ done ts
   unpacks = ap₂ unpackTickets count plain ∙ tickets-unpack ts v
 
   opens-head : unpackHead (headBytes tape) ≡ done head
-  opens-head = ap unpackHead head-part ∙ head-inverse .unpack-pack head h
+  unfolding tapeOf
+  opens-head = text-head key head (packTickets ts) h
 
   lengths : (eqb (length key) keyLength && tapeLength (length tape)) ≡ true
-  unfolding tapeLength
-  lengths =
-      ap₂ _&&_ (eq-eqb (length key) keyLength k)
-      (ap₂ _&&_ (le-leb emptyTapeLength (length tape) (omega (arith, size))) (ap ticketsLength {x = length tape - emptyTapeLength} {y = 13 * length ts} (omega (arith, size)) ∙ length-allowed (length ts) n))
+  unfolding tapeOf
+  lengths = text-lengths key head (packTickets ts) k (ap ticketsLength (tickets-length ts) ∙ length-allowed (length ts) n)
+
+  matches : tagMatches key (nonceOf (headBytes tape)) (headBytes tape) (sealedBytes tape) ≡ true
+  unfolding tapeOf
+  matches = text-matches key head (packTickets ts) (tickets-bytes ts)
 
   pub no-refusal : (out : List ℕ) → 13 * length ts ≤ length out → openRefusal key tape out ≡ accepted
   unfolding openRefusal
@@ -177,7 +198,7 @@ module _ (key : List ℕ) (head : Head) (ts : List Ticket) (k : length key ≡ k
       none-applies (not (eqb (length key) keyLength && tapeLength (length tape))) (isRefused (unpackHead (headBytes tape))) (ltb (length out) (ticketLength * ticketCount tape))
       (not (tagMatches key (nonceOf (headBytes tape)) (headBytes tape) (sealedBytes tape))) (isRefused (unpackTickets (ticketCount tape) (plainBytes key tape)))
       (ap not lengths) (ap isRefused opens-head) (le-ltb (length out) (ticketLength * ticketCount tape) (omega (arith, count)))
-      (ap not (ap₂ (λ (a b : List ℕ). tagMatches key (nonceOf a) a b) head-part sealed-part ∙ both .0)) (ap isRefused unpacks)
+      (ap not matches) (ap isRefused unpacks)
 
   opens : (out : List ℕ) → 13 * length ts ≤ length out
       → openTape key tape out ≡ record { answer = done (record { tickets = length ts; net = totalNet ts }); out = writtenOver (packTickets ts) out }
@@ -194,6 +215,12 @@ module _ (key : List ℕ) (head : Head) (ts : List Ticket) (k : length key ≡ k
         rest = refl;
       }
 
+  totals : plainTotals (packTickets ts) ≡ done (record { tickets = length ts; net = totalNet ts })
+  unfolding plainTotals totalsOf
+  totals =
+      let sized : ticketsLength (length (packTickets ts)) ≡ true = ap ticketsLength (tickets-length ts) ∙ length-allowed (length ts) n in
+      rw sized (ap totalsOf (ap (λ (m : ℕ). unpackTickets m (packTickets ts)) {x = length (packTickets ts) / ticketLength} {y = length ts} (omega (arith, tickets-length ts)) ∙ tickets-unpack ts v))
+
   lists : printed (key ++ tape) ≡ headLine head ++ ticketLines 1 ts ++ totalLine ts
   unfolding printed listing listingUnless listed
   lists =
@@ -203,7 +230,33 @@ module _ (key : List ℕ) (head : Head) (ts : List Ticket) (k : length key ≡ k
 
   laws : TapeLaws key head ts
   unfolding readerOver
-  laws = record { size = size; opens = opens; reads = reads-from 0 ts (packTickets ts) v start; ends = λ m. ends-from m 0 ts (packTickets ts) v start; lists = lists }
+  laws = record { size = size; opens = opens; totals = totals; reads = reads-from 0 ts (packTickets ts) v start; ends = λ m. ends-from m 0 ts (packTickets ts) v start; lists = lists }
 
 pub tapes-come-back : TapesComeBack
 tapes-come-back = laws
+
+-- ## A ticket that does not unpack
+
+eight-applies : (a b c d e : Bool) → a ≡ false → b ≡ false → c ≡ false → d ≡ false → e ≡ true → (2 if a else 3 if b else 6 if c else 7 if d else 8 if e else accepted) ≡ 8
+eight-applies a b c d e p q r s t = rw (p, q, r, s, t)
+
+eight : (key : List ℕ) (head : Head) (text out : List ℕ) → length key ≡ keyLength → headRule head ≡ true → AreBytes text
+    → ticketsLength (length text) ≡ true → length text ≤ length out → isRefused (unpackTickets (length text / ticketLength) text) ≡ true
+    → openTape key (tapeWithText key head text) out ≡ record { answer = refused 8; out = out }
+unfolding openTape resultOf unlessRefused openRefusal
+eight key head text out k h bytes sized room bad =
+    let tape : List ℕ = tapeWithText key head text in
+    let count : ticketCount tape ≡ length text / ticketLength = omega (arith, text-size key head text) in
+    rw (eight-applies (not (eqb (length key) keyLength && tapeLength (length tape))) (isRefused (unpackHead (headBytes tape))) (ltb (length out) (ticketLength * ticketCount tape))
+    (not (tagMatches key (nonceOf (headBytes tape)) (headBytes tape) (sealedBytes tape))) (isRefused (unpackTickets (ticketCount tape) (plainBytes key tape)))
+    (ap not (text-lengths key head text k sized)) (ap isRefused (text-head key head text h)) (le-ltb (length out) (ticketLength * ticketCount tape) (omega (arith, count)))
+    (ap not (text-matches key head text bytes)) (ap isRefused (ap₂ unpackTickets count (text-plain key head text bytes)) ∙ bad))
+
+last-byte-C1 : (key out : List ℕ) → length key ≡ keyLength → 13 ≤ length out → openTape key (tapeWithText key goodHead lastByteC1) out ≡ record { answer = refused 8; out = out }
+unfolding headRule ticketsLength unpackTickets unpackTicket valuesRule ordered
+last-byte-C1 key out k room =
+    let bytes : AreBytes lastByteC1 = pack-bytes (widths form1) ticketLength (1 ∷ 5 ∷ 2 ∷ 3 ∷ 4 ∷ 3600 ∷ 4200 ∷ 250000 ∷ 110000 ∷ 1 ∷ []) in
+    eight key goodHead lastByteC1 out k refl bytes refl room refl
+
+pub bad-tickets : BadTickets
+bad-tickets = record { eight = eight; last-byte-C1 = last-byte-C1 }

@@ -1,8 +1,8 @@
 -- Tickets and heads: packing and unpacking undo each other, what is packed is so many bytes, and what the rules say as facts on numbers.
-use Prim.Native.Nat.{ℕ, _≤_, _<_}
-use mathlib.Core.Path.{_≡_, refl}
-use mathlib.Core.Bool.{true}
-use mathlib.Core.List.{List}
+use Prim.Native.Nat.{ℕ, _+_, _-_, _≤_, _<_}
+use mathlib.Core.Path.{_≡_, refl, sym, ap}
+use mathlib.Core.Bool.{Bool, true, _&&_}
+use mathlib.Core.List.{List, [], _∷_, _++_}
 use native.Mathlib.Omega.{arith}
 use lib.Dec.{leb, ltb}
 use lib.ListN.{length, getD}
@@ -12,7 +12,8 @@ use Rattle.acorn_model.proofs.Choices.{both}
 use Rattle.tape_model.specs.declared.Ticket.{Ticket}
 use Rattle.tape_model.specs.declared.Head.{Head}
 use Rattle.tape_model.specs.Format.{widths, inRanges, cut}
-use Rattle.tape_model.specs.Ticket.{form1, ticketLength, ticketValues, ticketOf, ordered, valuesRule, ticketRule, packTicket, unpackTicket, headFormat, headLength, headValues, headOf, headRule, packHead, unpackHead}
+use Rattle.tape_model.specs.Ticket.{form1, ticketLength, ticketValues, ticketOf, ordered, valuesRule, ticketRule, net, packTicket, unpackTicket, headFormat, headLength, headValues, headOf, headRule, packHead, unpackHead}
+use Rattle.tape_model.specs.Tape.{totalNet}
 use Rattle.tape_model.specs.Laws.{Inverse, TicketLaws}
 use Rattle.tape_model.proofs.Ranges.{InRanges, in-ranges, ranges-fit, pack-bytes}
 use Rattle.tape_model.proofs.BitByBit.{bit-by-bit}
@@ -86,6 +87,15 @@ head-length h = refl
 
 -- ## All of it
 
+net-append : (ts us : List Ticket) → totalNet (ts ++ us) ≡ totalNet ts + totalNet us
+unfolding totalNet
+net-append [] us = omega arith
+net-append (t ∷ ts) us = omega (arith, net-append ts us)
+
+net-one : (t : Ticket) → totalNet (t ∷ []) ≡ t .gross - t .tare
+unfolding totalNet net
+net-one t = omega arith
+
 pub ticket-laws : TicketLaws
 unfolding packTicket packHead
 ticket-laws =
@@ -96,6 +106,9 @@ ticket-laws =
       ticket-width = refl;
       head-bits = λ d h. bit-by-bit (widths headFormat) headLength (headValues d) refl (ranges-fit headFormat (headValues d) (head-laid .roomy) (head-rule d h));
       head-width = refl;
+      nonce = λ h. refl;
+      net-one = net-one;
+      net-append = net-append;
       ticket-injective = injective ticket-inverse;
       head-injective = injective head-inverse;
     }

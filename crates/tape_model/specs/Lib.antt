@@ -7,4 +7,6 @@ pub mod Reader
 pub mod Listing
 pub mod Cases
 pub mod RefusalExamples
+pub mod FieldCases
+pub mod RefusalCases
 pub mod Laws

@@ -1,0 +1,23 @@
+-- The cases of specs/FieldCases hold: each is computed.
+use mathlib.Core.Path.{refl}
+use Rattle.tape_model.specs.Ticket.{ordered, valuesRule}
+use Rattle.tape_model.specs.FieldCases.{FieldCases}
+
+pub field-cases : FieldCases
+unfolding valuesRule ordered
+field-cases =
+    record {
+      form = (refl, refl);
+      truck = (refl, refl);
+      shovel = (refl, refl);
+      tip = (refl, refl);
+      grade = (refl, refl);
+      loaded = (refl, refl);
+      tipped = (refl, refl);
+      gross = (refl, refl);
+      tare = (refl, refl);
+      spare = (refl, refl);
+      device = (refl, refl);
+      shift = (refl, refl);
+      sheet = (refl, refl);
+    }

@@ -1,0 +1,18 @@
+-- A call of the plain writer that is sent back changes nothing.
+use mathlib.Core.Path.{_≡_, refl}
+use Rattle.acorn_model.specs.Calls.{unlessRefused, refusedWith}
+use Rattle.tape_model.specs.Writer.{PlainWriter, WriterCall, start, add, finish, outputOf, writerCall}
+use Rattle.tape_model.specs.Laws.{SentBack, SentBackLaws}
+
+sent-back : (w : PlainWriter) (c : WriterCall) → SentBack w c (outputOf c)
+unfolding writerCall unlessRefused refusedWith
+sent-back w c n e = rw e
+
+pub sent-back-laws : (w : PlainWriter) → SentBackLaws w
+unfolding outputOf
+sent-back-laws w =
+    record {
+      of-start = λ key head out. sent-back w (start key head out);
+      of-add = λ t out. sent-back w (add t out);
+      of-finish = λ out. sent-back w (finish out);
+    }

@@ -1,0 +1,42 @@
+-- Document 01's ranges of a ticket's and a head's fields, from both sides: which values of a field are right, the others being those of an example.
+use mathlib.Core.Path.{_≡_}
+use mathlib.Core.Bool.{Bool, true, false}
+use mathlib.Core.List.{List, [], _∷_, map}
+use Prim.Native.Nat.{ℕ, zero, suc}
+use lib.ListN.{length, replicate}
+use Rattle.tape_model.specs.Format.{inRanges}
+use Rattle.tape_model.specs.Ticket.{valuesRule, headFormat}
+
+-- a list with another value at a place
+abbrev pub put : ℕ → ℕ → List ℕ → List ℕ
+put place v [] = []
+put zero v (x ∷ l) = v ∷ l
+put (suc place) v (x ∷ l) = x ∷ put place v l
+
+-- by this rule, these values are right at a place of the example, and those are wrong
+abbrev pub Allows : (List ℕ → Bool) → List ℕ → ℕ → List ℕ → List ℕ → Type 0
+Allows rule example place right wrong =
+    (map (λ v. rule (put place v example)) right ≡ replicate (length right) true) × (map (λ v. rule (put place v example)) wrong ≡ replicate (length wrong) false)
+
+-- form, truck, shovel, tip point, grade, loaded, tipped, gross, tare, spare
+abbrev pub OfTicket : ℕ → List ℕ → List ℕ → Type 0
+OfTicket = Allows valuesRule (1 ∷ 5 ∷ 2 ∷ 3 ∷ 4 ∷ 3600 ∷ 43199 ∷ 1048575 ∷ 110000 ∷ 0 ∷ [])
+
+-- device, shift, sheet
+abbrev pub OfHead : ℕ → List ℕ → List ℕ → Type 0
+OfHead = Allows (inRanges headFormat) (7 ∷ 2 ∷ 1 ∷ [])
+
+pub record FieldCases : Type 0 where
+  pub form : OfTicket 0 (1 ∷ []) (0 ∷ 2 ∷ [])
+  pub truck : OfTicket 1 (1 ∷ 1023 ∷ []) (0 ∷ 1024 ∷ [])
+  pub shovel : OfTicket 2 (1 ∷ 63 ∷ []) (0 ∷ 64 ∷ [])
+  pub tip : OfTicket 3 (1 ∷ 63 ∷ []) (0 ∷ 64 ∷ [])
+  pub grade : OfTicket 4 (0 ∷ 9 ∷ []) (10 ∷ [])
+  pub loaded : OfTicket 5 (0 ∷ 43199 ∷ []) (43200 ∷ [])
+  pub tipped : OfTicket 6 (3600 ∷ 43199 ∷ []) (3599 ∷ 43200 ∷ [])
+  pub gross : OfTicket 7 (110001 ∷ 1048575 ∷ []) (110000 ∷ 1048576 ∷ [])
+  pub tare : OfTicket 8 (0 ∷ 1048574 ∷ []) (1048575 ∷ [])
+  pub spare : OfTicket 9 (0 ∷ []) (1 ∷ [])
+  pub device : OfHead 0 (1 ∷ 4294967295 ∷ []) (0 ∷ 4294967296 ∷ [])
+  pub shift : OfHead 1 (1 ∷ 1000000 ∷ []) (0 ∷ 1000001 ∷ [])
+  pub sheet : OfHead 2 (1 ∷ 1000000 ∷ []) (0 ∷ 1000001 ∷ [])
