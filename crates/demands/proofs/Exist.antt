@@ -18,7 +18,7 @@ use Rattle.demands.proofs.Standing.{call-clear, answerOf, answers, writ
 
 module _ {S C R : Type 0} (next : R → S) (reply : R → Reply Work) (Called : S → C → R → List ℕ → Type 0)
     (replies : (s : S) (c : C) → (r : R) × (out : List ℕ) × Called s c r out) where
-  calls-made : (s : S) (cs : List C) → (es : List (Entry C)) × (e : S) × CallsMade next reply Called s es e × (callsOf es ≡ cs)
+  pub calls-made : (s : S) (cs : List C) → (es : List (Entry C)) × (e : S) × CallsMade next reply Called s es e × (callsOf es ≡ cs)
   unfolding callsOf
   calls-made s [] = ([], s, none, refl)
   calls-made s (c ∷ cs) =

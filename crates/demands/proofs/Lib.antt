@@ -13,3 +13,4 @@ pub mod WriterExamples
 pub mod MessageExamples
 pub mod Examples
 pub mod Tapes
+pub mod Exports

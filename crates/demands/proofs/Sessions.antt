@@ -2,7 +2,7 @@
 use mathlib.Core.Path.{_≡_, refl, sym, ap, _∙_, subst, subst₂}
 use mathlib.Core.List.{List, [], _∷_, _++_}
 use mathlib.Core.Logic.{_↔_}
-use Prim.Native.Nat.{ℕ, _≤_}
+use Prim.Native.Nat.{ℕ, _≤_, _<_, _^_}
 use lib.ListN.{length}
 use Rattle.acorn_model.specs.declared.Kind.{Kind}
 use Rattle.acorn_model.specs.declared.Kind.the-variants.{Sealing, Checking}
@@ -26,24 +26,31 @@ use Rattle.demands.proofs.Messages.{by-paper}
 use Rattle.demands.proofs.AsModel.{as-model}
 
 -- a machine that a list of calls led to
-record HasRun (m : Machine) : Type 0 where
-  log : Log
-  reached : Reached m log
+pub record HasRun (m : Machine) : Type 0 where
+  pub log : Log
+  pub reached : Reached m log
 
-runs-on : (m : Machine) (c : Call) → HasRun m → HasRun (call m c .next)
+pub has-run-fresh : (kind : Kind) → HasRun (fresh kind)
+has-run-fresh kind = record { log = _; reached = fresh-reached kind }
+
+pub runs-on : (m : Machine) (c : Call) → HasRun m → HasRun (call m c .next)
 runs-on m c h = record { log = _; reached = call-kept m c (h .log) (h .reached) }
+
+-- its count of steps does not wrap around
+pub run-small : (m : Machine) → HasRun m → m .counts .steps < 2 ^ 64
+run-small m h = reached-small m (h .log) (h .reached)
 
 says : (s : Session) (c : Call) (r : SessionReply) (out : List ℕ) → HasRun (machineOf s) → Called s c r out
     → record { next = machineOf (r .session); answer = answerReply (r .answer); out = out } ≡ call (machineOf s) c
 unfolding outcomeOf
-says s c r out h k = called-within s c r out (machineOf s) refl (let n = runs-on (machineOf s) c h in reached-small _ (n .log) (n .reached)) k
+says s c r out h k = called-within s c r out (machineOf s) refl (run-small _ (runs-on (machineOf s) c h)) k
 
 module _ (kind : Kind) (es : List (Entry Call)) (e : Session) (l : SessionList kind es e) where
   as-machine : (es ≡ entries call (fresh kind) (callsOf es)) × (machineOf e ≡ handedOn call (fresh kind) (callsOf es))
   as-machine =
       subst (λ (m : Machine). (es ≡ entries call m (callsOf es)) × (machineOf e ≡ handedOn call m (callsOf es))) (l .isFresh)
       (as-model (λ (r : SessionReply). r .session) (λ (r : SessionReply). answerReply (r .answer)) Called call machineOf HasRun says runs-on (l .first) e es
-      (subst HasRun (sym (l .isFresh)) (record { log = _; reached = fresh-reached kind })) (l .calls))
+      (subst HasRun (sym (l .isFresh)) (has-run-fresh kind)) (l .calls))
 
   -- what the list amounts to, and its last session, are the machine's
   same-log : logOf es ≡ logFrom kind (callsOf es)

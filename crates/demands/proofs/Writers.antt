@@ -35,7 +35,7 @@ use Rattle.demands.proofs.AsModel.{as-model}
 abbrev Small : PlainWriter → Type 0
 Small w = w .machine .counts .steps < 2 ^ 64
 
-abbrev Within : Outcome PlainWriter Work → Type 0
+abbrev pub Within : Outcome PlainWriter Work → Type 0
 Within o = wrappedWriterOutcome o ≡ o
 
 passed-within : (m : Machine) (c : Call) (phase : WriterPhase) (n : ℕ) → Passed m c → machineWork m c .next .counts .steps < 2 ^ 64 → Within (passedTo (machineWork m c) phase n)
@@ -61,7 +61,7 @@ refused-within n w out h = λ i. record { next = record { machine = within (w .m
 small : (w : PlainWriter) → HasRun w → Small w
 small w h = writer-small w (h .log) (h .reached)
 
-call-within-writer : (w : PlainWriter) (c : WriterCall) → HasRun w → Within (writerCall w c)
+pub call-within-writer : (w : PlainWriter) (c : WriterCall) → HasRun w → Within (writerCall w c)
 unfolding writerCall
 call-within-writer w c h =
     by-number (λ (o : Outcome PlainWriter Work). Small (o .next) → Within o) (refusal w c) (work w c) (refusedWith (refusal w c) w (outputOf c))
