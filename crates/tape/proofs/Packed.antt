@@ -8,12 +8,12 @@ use lib.Dec.{ltb}
 use lib.ListN.{length, take, drop, replicate}
 use lib.Seq.{take-all}
 use Rattle.acorn_model.specs.Bits.{_if_else_}
-use Rattle.acorn_model.specs.Calls.{Reply, refused, done, accepted, unlessRefused, writtenOver}
+use Rattle.acorn_model.specs.Calls.{Reply, accepted, unlessRefused, writtenOver}
 use Rattle.acorn_model.specs.Message.{Result, resultOf}
 use Rattle.tape_model.specs.declared.Ticket.{Ticket}
 use Rattle.tape_model.specs.declared.Head.{Head}
-use Rattle.tape_model.specs.Ticket.{ticketLength, ticketRule, packTicket, headLength, headRule, packHead, packHeadInto}
-use Rattle.tape_model.specs.Tape.{nonceOf, isRefused}
+use Rattle.tape_model.specs.Ticket.{ticketRule, packTicket, headLength, headRule, packHead, packHeadInto}
+use Rattle.tape_model.specs.Tape.{nonceOf}
 use Rattle.tape_model.proofs.Tickets.{head-length}
 use Rattle.ticket.specs.Packing.{packedOrZeros}
 

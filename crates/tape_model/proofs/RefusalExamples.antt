@@ -16,13 +16,12 @@ use Rattle.acorn_model.specs.Machine.{fresh, phaseAllows, sizesRight, overLimit
 use Rattle.acorn_model.specs.Machine.{runThrough, enter, cleared, countData, begun, dataTaken, textTaken, answered, wrote, work, call}
 use Rattle.acorn_model.specs.Message.{resultOf, cipherPart, tagPart, sealed, sealRefusal, sealMessage, tagMatches, opened, openMessage}
 use Rattle.acorn_model.specs.Laws.{WithinLimits}
-use Rattle.acorn_model.proofs.Outputs.{tag-length, sealed-length, sealed-are-bytes}
+use Rattle.acorn_model.proofs.Outputs.{tag-length, sealed-length}
 use Rattle.acorn_model.proofs.Messages.{open-passed}
 use Rattle.acorn_model.proofs.Proved.{opening-exact}
 use Rattle.tape_model.specs.declared.Ticket.{Ticket}
 use Rattle.tape_model.specs.declared.Head.{Head}
-use Rattle.tape_model.specs.Format.{widths}
-use Rattle.tape_model.specs.Ticket.{form1, ticketLength, ordered, valuesRule, ticketRule, unpackTicket, headLength, headRule, packHead, unpackHead}
+use Rattle.tape_model.specs.Ticket.{ticketLength, ordered, valuesRule, ticketRule, unpackTicket, headLength, headRule, packHead, unpackHead}
 use Rattle.tape_model.specs.Tape.{ticketLimit, nonceOf, packTickets, tapeOf, ticketsLength, unpackTickets, isRefused, emptyTapeLength, tapeLength, headBytes, sealedBytes, ticketCount, plainBytes, openRefusal, openTape}
 use Rattle.tape_model.specs.Writer as plain
 use Rattle.tape_model.specs.Reader.{readerOver, readNext, handedOut}

@@ -1,5 +1,4 @@
 -- A call of the plain writer that is sent back changes nothing.
-use mathlib.Core.Path.{_≡_, refl}
 use Rattle.acorn_model.specs.Calls.{unlessRefused, refusedWith}
 use Rattle.tape_model.specs.Writer.{PlainWriter, WriterCall, start, add, finish, outputOf, writerCall}
 use Rattle.tape_model.specs.Laws.{SentBack, SentBackLaws}

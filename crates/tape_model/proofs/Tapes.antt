@@ -20,7 +20,7 @@ use Rattle.tape_model.specs.declared.Head.{Head}
 use Rattle.tape_model.specs.Format.{widths}
 use Rattle.tape_model.specs.Ticket.{form1, ticketLength, ordered, valuesRule, ticketRule, packTicket, unpackTicket, headLength, headRule, packHead, unpackHead}
 use Rattle.tape_model.specs.Tape.{ticketLimit, nonceOf, packTickets, tapeOf, ticketsLength, ticketThen, unpackTickets, isRefused, ticketsIn, totalNet, totalsOf, plainTotals, emptyTapeLength, tapeLength, headBytes, sealedBytes, ticketCount, plainBytes, openRefusal, openTape}
-use Rattle.tape_model.specs.Reader.{Reading, ticket, atEnd, Reader, readerOver, readNext, stays, handedOut}
+use Rattle.tape_model.specs.Reader.{ticket, atEnd, Reader, readerOver, readNext, stays, handedOut}
 use Rattle.tape_model.specs.Listing.{headLine, ticketLines, totalLine, listed, listingUnless, listing, printed}
 use Rattle.tape_model.specs.Laws.{Valid, readings, readerAfter, asReadings, TapeLaws, TapesComeBack, tapeWithText, BadTickets}
 use Rattle.tape_model.specs.RefusalCases.{goodHead, lastByteC1}

@@ -12,8 +12,8 @@ use Rattle.acorn_model.specs.RefusalCases.{string}
 use Rattle.tape_model.specs.declared.Ticket.{Ticket}
 use Rattle.tape_model.specs.declared.Head.{Head}
 use Rattle.tape_model.specs.Format.{totalWidth, widths, join, cut, Fit, byteWidths, pack, bitString}
-use Rattle.tape_model.specs.Ticket.{form1, ticketLength, ticketValues, ticketRule, packTicket, unpackTicket, headFormat, headLength, headValues, headRule, packHead, unpackHead}
-use Rattle.tape_model.specs.Tape.{ticketLimit, nonceOf, packTickets, tapeOf, ticketsLength, unpackTickets, isRefused, emptyTapeLength, totalNet, plainTotals, openRefusal, openTape}
+use Rattle.tape_model.specs.Ticket.{form1, ticketLength, ticketValues, ticketRule, packTicket, unpackTicket, headFormat, headValues, headRule, packHead, unpackHead}
+use Rattle.tape_model.specs.Tape.{ticketLimit, nonceOf, packTickets, tapeOf, ticketsLength, unpackTickets, isRefused, totalNet, plainTotals, openRefusal, openTape}
 use Rattle.tape_model.specs.Writer.{PlainWriter, WriterCall, start, add, finish, refusal, writerCall}
 use Rattle.tape_model.specs.Reader.{Reading, ticket, atEnd, Reader, readerOver, readNext}
 use Rattle.tape_model.specs.Listing.{decimal, headLine, ticketLines, totalLine, refusedLine, listed, listing, printed, exampleText, refusedText}
