@@ -6,8 +6,9 @@
  * anything else that the call is given (so nothing is sealed in place), and a pointer must not be null, not even with length 0.
  * There is no global state: calls on different structs and buffers may run at the same time.
  *
- * Secrets: the words of a session or writer that is not closed are as secret as its key; a close, and finish, put zeros in their
- * place. ht_open, ht_open_tape and ht_list_tape leave decrypted text on the stack, a refused one (7, 8) too: who must not leave it
+ * Secrets: the words of a session or writer that is not closed are as secret as its key. A close that is done or ends with 7, and a
+ * finish that is done, put zeros in place of the cipher's state, so that counts and phase are left; one that is sent back stores
+ * nothing. ht_open, ht_open_tape and ht_list_tape leave decrypted text on the stack, a refused one (7, 8) too: who must not leave it
  * there clears the stack below.
  *
  * A key and nonce must serve one message only, and a key and head one tape only: the caller sees to that.
@@ -16,8 +17,8 @@
  * for each other call.
  *
  * Each answer has a field `refused`: 0 where the call was done, else the number that sent it back. The smallest number that
- * applies is given, and the rest of the answer is 0 (a reading's position stays). A refused call changes nothing: its struct
- * holds the same session or writer as before, and every buffer is as it was; but a wrong tag (7) closes a checking session.
+ * applies is given, and the rest of the answer is 0 (a reading's position stays). A refused call changes nothing: every
+ * word of its struct and every byte of its buffers is as it was; but a wrong tag (7) closes a checking session.
  *
  *   1  the call does not fit the phase, or is meant for the other kind of session
  *   2  a key, nonce or tag that is not 16 bytes; sealed bytes under 16; a tape that is not 25 + 13n bytes, or tickets' bytes
