@@ -47,8 +47,4 @@ module _ (key nonce «data» : List ℕ) where
             let o : Openable key nonce «data» s out = record { key-size = k; nonce-size = n; data-limit = d; tag-there = t; text-limit = l; room = room } in
             let e : writtenReply r ≡ refused 7 = (λ i. sym h i .answer) ∙ answered-7 s out (open-passed key nonce «data» s out o) m in
             (e, (λ i. sym h i .out) ∙ message-laws key nonce «data» .open-refused 7 s out ((λ i. h i .answer) ∙ e));
-        sevens-alike = λ key′ nonce′ data′ s s′ out after after′ r r′ h h′ e e′. (
-          (λ i. sym h i .out) ∙ message-laws key nonce «data» .open-refused 7 s out ((λ i. h i .answer) ∙ e),
-          (λ i. sym h′ i .out) ∙ message-laws key′ nonce′ data′ .open-refused 7 s′ out ((λ i. h′ i .answer) ∙ e′),
-        );
       }

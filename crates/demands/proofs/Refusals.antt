@@ -44,7 +44,7 @@ use Rattle.reader.specs.declared.ReaderReply.{ReaderReply}
 use Rattle.reader.specs.Contracts.{readerOf, NextCalled}
 use Rattle.reader.specs.Contracts as reader
 use Rattle.ticket.proofs.Summing.{refused-by-8}
-use Rattle.demands.specs.Refusals.{AnsweredBy, tagDiffers, sessionNumber, Counts64, SessionRefusals, WriterRefusals, OpensTape, OpeningRefusals, readerNumber, ReaderRefusals, RefusalDemand}
+use Rattle.demands.specs.Refusals.{RefusedBy, AnsweredBy, tagDiffers, sessionNumber, Counts64, SessionRefusals, WriterRefusals, OpensTape, OpeningRefusals, readerNumber, ReaderRefusals, RefusalDemand}
 use Rattle.demands.proofs.Numbers.{never, same-number, accepted-by, refused-by, by-cases, chain, refused-as}
 use Rattle.demands.proofs.Writers.{has-run, writer-demand}
 
@@ -255,6 +255,14 @@ reader-refusals r h called =
     let x = subst (Reads (readerNumber (readerOf r)) (readerOf r)) (sym (called .outcome)) (reads (readerOf r)) in
     record { number = x .0; unchanged = x .1 }
 
+-- two refusals with 7 over one output
+alike : {A : Type 0} {n n′ : ℕ} {a a′ : Reply A} {out after after′ : List ℕ} → RefusedBy n a out after → RefusedBy n′ a′ out after′ → n ≡ 7 → n′ ≡ 7
+    → (a ≡ a′) × (after ≡ after′)
+alike h h′ e e′ =
+    let seven = h .number .refuses 6 .1 e in
+    let seven′ = h′ .number .refuses 6 .1 e′ in
+    (seven ∙ sym seven′, h .unchanged 7 seven ∙ sym (h′ .unchanged 7 seven′))
+
 pub refusal-demand : RefusalDemand
 unfolding message.sealMessage message.openMessage packTicketInto packHeadInto unpackTicket unpackHead
 refusal-demand =
@@ -268,8 +276,12 @@ refusal-demand =
       sealing = λ key nonce d text out after r h. refused-as _ _ _ out (writtenReply r) after h;
       opening = λ key nonce d s out after r h. refused-as _ _ _ out (writtenReply r) after h;
       openings = opening-refusals;
-      sevens-alike = λ key key′ tape tape′ out after after′ r r′ h h′ e e′.
-          opening-refusals key tape out after r h .unchanged 7 e ∙ sym (opening-refusals key′ tape′ out after′ r′ h′ .unchanged 7 e′);
+      message-sevens = λ key key′ nonce nonce′ d d′ s s′ out after after′ r r′ h h′.
+          alike (refused-as _ _ _ out (writtenReply r) after h) (refused-as _ _ _ out (writtenReply r′) after′ h′);
+      tape-sevens = λ key key′ tape tape′ out after after′ r r′ h h′.
+          let o = opening-refusals key tape out after r h in
+          let o′ = opening-refusals key′ tape′ out after′ r′ h′ in
+          alike (record { number = o .number; unchanged = o .unchanged }) (record { number = o′ .number; unchanged = o′ .unchanged });
       readers = reader-refusals;
       packing = λ t out after r h. refused-as _ _ _ out (writtenReply r) after h;
       packing-heads = λ h out after r e. refused-as _ _ _ out (writtenReply r) after e;

@@ -41,7 +41,3 @@ module _ (key nonce «data» : List ℕ) where
         → length key ≡ keyLength → length nonce ≡ nonceLength → length «data» ≤ byteLimit
         → tagLength ≤ length sealedBytes → length sealedBytes - tagLength ≤ byteLimit → length sealedBytes - tagLength ≤ length out
         → tagMatches key nonce «data» sealedBytes ≡ false → (writtenReply r ≡ refused 7) × (after ≡ out)
-    -- two openings that are answered 7 leave their outputs as they were, whatever they were given
-    pub sevens-alike : (key′ nonce′ data′ sealedBytes sealedBytes′ out after after′ : List ℕ) (r r′ : Written)
-        → OpensTo key nonce «data» sealedBytes out r after → OpensTo key′ nonce′ data′ sealedBytes′ out r′ after′
-        → writtenReply r ≡ refused 7 → writtenReply r′ ≡ refused 7 → (after ≡ out) × (after′ ≡ out)

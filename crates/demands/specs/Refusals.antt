@@ -159,9 +159,13 @@ pub record RefusalDemand : Type 0 where
       → RefusedBy (message.openRefusal key nonce «data» sealedBytes out) (writtenReply r) out after
   -- tapes
   pub openings : (key tape out after : List ℕ) (r : OpenedTape) (opened : OpensTape key tape out r after) → OpeningRefusals key tape out after r opened
-  -- two openings that both end on a differing tag, with equal outputs before, give the same answer and leave equal outputs
-  pub sevens-alike : (key key′ tape tape′ out after after′ : List ℕ) (r r′ : OpenedTape) → OpensTape key tape out r after → OpensTape key′ tape′ out r′ after′
-      → openedReply r ≡ refused 7 → openedReply r′ ≡ refused 7 → after ≡ after′
+  -- two openings for which 7 is the number, with equal outputs before, are answered alike and leave equal outputs, whatever else they were given
+  pub message-sevens : (key key′ nonce nonce′ «data» data′ sealedBytes sealedBytes′ out after after′ : List ℕ) (r r′ : Written)
+      → OpensTo key nonce «data» sealedBytes out r after → OpensTo key′ nonce′ data′ sealedBytes′ out r′ after′
+      → message.openRefusal key nonce «data» sealedBytes out ≡ 7 → message.openRefusal key′ nonce′ data′ sealedBytes′ out ≡ 7
+      → (writtenReply r ≡ writtenReply r′) × (after ≡ after′)
+  pub tape-sevens : (key key′ tape tape′ out after after′ : List ℕ) (r r′ : OpenedTape) → OpensTape key tape out r after → OpensTape key′ tape′ out r′ after′
+      → openRefusal key tape out ≡ 7 → openRefusal key′ tape′ out ≡ 7 → (openedReply r ≡ openedReply r′) × (after ≡ after′)
   pub readers : (r : Reader) (h : ReaderReply) (called : NextCalled r h) → ReaderRefusals r h called
   -- tickets and heads by themselves
   pub packing : (t : Ticket) (out after : List ℕ) (r : Written) → PacksTicket t out r after
