@@ -20,7 +20,6 @@ use Rattle.acorn.specs.declared.stretch.Stretch.the-variants.{Data, Text
 use Rattle.acorn_model.proofs.Runs.{run-none, run-add, run-same}
 use Rattle.acorn_model.proofs.Bytes.{bytes-length, bytes-same, bytes-add}
 use Rattle.acorn_kernel.proofs.WordBits.{bit-xor}
-use Rattle.acorn_kernel.proofs.TogetherSteps.{all-run}
 use Rattle.acorn.proofs.ControlTable.{data-controls, text-controls}
 
 -- ## Any stretch
@@ -33,7 +32,7 @@ module _ (row : Stretch) (S T T' : Bits) (n k x z : ℕ) (hk : k ≤ 32) (openin
       run-same (inputsFrom opening ca cb (bit x)) (λ i. inputs row (n + i)) q T (λ i m. same i (omega arith)) ∙ ap (run (λ i. inputs row (n + i)) q) reached ∙ sym (run-add (inputs row) n q S)
 
   pub state-more : T' ≡ run (inputs row) (n + k) S
-  state-more = steps .state ∙ ap (λ (q : ℕ). run (inputsFrom opening ca cb (bit x)) q T) (all-run k hk) ∙ joined k (omega arith)
+  state-more = steps .state ∙ joined k (omega arith)
 
   pub ks-more : (j : ℕ) → j < k → bit z j ≡ keystream row S (n + j)
   unfolding keystream
@@ -86,31 +85,31 @@ written-all b n out₀ out h = h ∙ ap (λ (k : ℕ). bytes n b ++ drop k out�
 abbrev pieceInput : Bool → Bool → Bool → Bool → StepInput
 pieceInput opening ca cb b = record { ca = ca; cb = cb; m = λ ks. (opening && ks) ⊕ b }
 
--- k bytes more of a piece, from byte i on
-module _ (piece : List ℕ) (S T T' : Bits) (i k x z : ℕ) (hk : k ≤ 4) (loaded : (q : ℕ) → q < 8 * k → bit x q ≡ bitsIn piece (8 * i + q)) (ca cb : Bool) where
-  same-input : (opening ca' cb' : Bool) → ca ≡ ca' → cb ≡ cb' → (q : ℕ) → q < 8 * k → pieceInput opening ca cb (bit x q) ≡ pieceInput opening ca' cb' (bitsIn piece (8 * i + q))
-  same-input opening ca' cb' ea eb q l = ap₂ (λ (a b : Bool). pieceInput opening a b (bit x q)) ea eb ∙ ap (pieceInput opening ca' cb') (loaded q l)
+-- k bytes more of a piece, from byte i on, in n steps
+module _ (piece : List ℕ) (S T T' : Bits) (i k n x z : ℕ) (hk : k ≤ 4) (e : n ≡ 8 * k) (loaded : (q : ℕ) → q < 8 * k → bit x q ≡ bitsIn piece (8 * i + q)) (ca cb : Bool) where
+  same-input : (opening ca' cb' : Bool) → ca ≡ ca' → cb ≡ cb' → (q : ℕ) → q < n → pieceInput opening ca cb (bit x q) ≡ pieceInput opening ca' cb' (bitsIn piece (8 * i + q))
+  same-input opening ca' cb' ea eb q l = ap₂ (λ (a b : Bool). pieceInput opening a b (bit x q)) ea eb ∙ ap (pieceInput opening ca' cb') (loaded q (omega arith))
 
-  further : (row : Stretch) → T' ≡ run (inputs row) (8 * i + 8 * k) S → T' ≡ run (inputs row) (8 * (i + k)) S
-  further row h = h ∙ ap (λ (n : ℕ). run (inputs row) n S) (omega arith)
+  further : (row : Stretch) → T' ≡ run (inputs row) (8 * i + n) S → T' ≡ run (inputs row) (8 * (i + k)) S
+  further row h = h ∙ ap (λ (q : ℕ). run (inputs row) q S) (omega arith)
 
-  pub data-more : ca ≡ caAt (firstStep Data) → cb ≡ cbAt (firstStep Data) → T ≡ run (inputs (dataPiece piece)) (8 * i) S → Together T x false ca cb (8 * k) T' z
+  pub data-more : ca ≡ caAt (firstStep Data) → cb ≡ cbAt (firstStep Data) → T ≡ run (inputs (dataPiece piece)) (8 * i) S → Together T x false ca cb n T' z
       → T' ≡ run (inputs (dataPiece piece)) (8 * (i + k)) S
   data-more ea eb reached steps =
       let controls = data-controls piece i in
       further (dataPiece piece)
-      (state-more (dataPiece piece) S T T' (8 * i) (8 * k) x z (omega arith) false ca cb reached (same-input false true true (ea ∙ controls .0) (eb ∙ controls .1)) steps)
+      (state-more (dataPiece piece) S T T' (8 * i) n x z (omega arith) false ca cb reached (same-input false true true (ea ∙ controls .0) (eb ∙ controls .1)) steps)
 
   module _ (opening : Bool) (ea : ca ≡ caAt (firstStep Text)) (eb : cb ≡ cbAt (firstStep Text)) (reached : T ≡ run (inputs (textPiece opening piece)) (8 * i) S)
-      (steps : Together T x opening ca cb (8 * k) T' z) where
-    same-text : (q : ℕ) → q < 8 * k → inputsFrom opening ca cb (bit x) q ≡ inputs (textPiece opening piece) (8 * i + q)
+      (steps : Together T x opening ca cb n T' z) where
+    same-text : (q : ℕ) → q < n → inputsFrom opening ca cb (bit x) q ≡ inputs (textPiece opening piece) (8 * i + q)
     same-text = let controls = text-controls opening piece i in same-input opening true false (ea ∙ controls .0) (eb ∙ controls .1)
 
     pub text-more : T' ≡ run (inputs (textPiece opening piece)) (8 * (i + k)) S
-    text-more = further (textPiece opening piece) (state-more (textPiece opening piece) S T T' (8 * i) (8 * k) x z (omega arith) opening ca cb reached same-text steps)
+    text-more = further (textPiece opening piece) (state-more (textPiece opening piece) S T T' (8 * i) n x z (omega arith) opening ca cb reached same-text steps)
 
-    pub ks-of-text : (q : ℕ) → q < 8 * k → bit z q ≡ keystream (textPiece opening piece) S (8 * i + q)
-    ks-of-text = ks-more (textPiece opening piece) S T T' (8 * i) (8 * k) x z (omega arith) opening ca cb reached same-text steps
+    pub ks-of-text : (q : ℕ) → q < n → bit z q ≡ keystream (textPiece opening piece) S (8 * i + q)
+    ks-of-text = ks-more (textPiece opening piece) S T T' (8 * i) n x z (omega arith) opening ca cb reached same-text steps
 
 -- the bits that come out for a piece of text
 abbrev outBits : Bool → List ℕ → Bits → Bits
@@ -125,13 +124,13 @@ module _ (opening : Bool) (S : Bits) (piece out₀ : List ℕ) where
   pub text-none : TextUpTo opening S piece out₀ 0 S out₀
   text-none = record { state = state-none (inputs (textPiece opening piece)) S; output = written-none (outBits opening piece S) out₀ }
 
-  pub text-further : (i k x z : ℕ) (T T' : Bits) (out out' : List ℕ) (ca cb : Bool) → k ≤ 4 → ca ≡ caAt (firstStep Text) → cb ≡ cbAt (firstStep Text) → TextUpTo opening S piece out₀ i T out
-      → ((q : ℕ) → q < 8 * k → bit x q ≡ bitsIn piece (8 * i + q)) → Together T x opening ca cb (8 * k) T' z → out' ≡ paste out i (bytes 4 (bit (bitXor x z))) k → TextUpTo opening S piece out₀ (i + k) T' out'
-  text-further i k x z T T' out out' ca cb hk ea eb u loaded steps stored =
+  pub text-further : (i k n x z : ℕ) (T T' : Bits) (out out' : List ℕ) (ca cb : Bool) → k ≤ 4 → n ≡ 8 * k → ca ≡ caAt (firstStep Text) → cb ≡ cbAt (firstStep Text) → TextUpTo opening S piece out₀ i T out
+      → ((q : ℕ) → q < 8 * k → bit x q ≡ bitsIn piece (8 * i + q)) → Together T x opening ca cb n T' z → out' ≡ paste out i (bytes 4 (bit (bitXor x z))) k → TextUpTo opening S piece out₀ (i + k) T' out'
+  text-further i k n x z T T' out out' ca cb hk e ea eb u loaded steps stored =
       record {
-        state = text-more piece S T T' i k x z hk loaded ca cb opening ea eb (u .state) steps;
+        state = text-more piece S T T' i k n x z hk e loaded ca cb opening ea eb (u .state) steps;
         output = written-more (outBits opening piece S) out₀ out out' i k (bitXor x z) hk (u .output)
-            (λ q l. bit-xor x z q ∙ ap₂ _⊕_ (loaded q l) (ks-of-text piece S T T' i k x z hk loaded ca cb opening ea eb (u .state) steps q l)) stored;
+            (λ q l. bit-xor x z q ∙ ap₂ _⊕_ (loaded q l) (ks-of-text piece S T T' i k n x z hk e loaded ca cb opening ea eb (u .state) steps q (omega arith))) stored;
       }
 
   -- all of it, or nothing where there is no room

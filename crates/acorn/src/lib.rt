@@ -3,7 +3,8 @@ mod bytes;
 pub mod stretch;
 
 pub use acorn_kernel::State;
-use acorn_kernel::together;
+use acorn_kernel::together_rest;
+use acorn_kernel::together_word;
 pub use acorn_kernel::zeros;
 use bytes::load_rest;
 use bytes::load_word;
@@ -42,16 +43,16 @@ pub fn seal_text(s: State, piece: &[u8], out: &mut [u8]) -> State
     let whole = piece.len() - piece.len() % 4;
     while i < whole {
         let x = load_word(piece, i);
-        let m = together(t, x, false, ca, cb, 32);
+        let m = together_word(t, x, false, ca, cb);
         store_word(out, i, x ^ m.ks);
         let next = m.state;
         t = next;
         i += 4;
     }
     if i < piece.len() {
-        let k = piece.len() - i;
+        let k = piece.len() % 4;
         let x = load_rest(piece, i, k);
-        let m = together(t, x, false, ca, cb, (8 * k) as u64);
+        let m = together_rest(t, x, false, ca, cb, (k - 1) as u64);
         store_rest(out, i, k, x ^ m.ks);
         let next = m.state;
         t = next;
@@ -73,16 +74,16 @@ pub fn decrypt(s: State, piece: &[u8], out: &mut [u8]) -> State
     let whole = piece.len() - piece.len() % 4;
     while i < whole {
         let x = load_word(piece, i);
-        let m = together(t, x, true, ca, cb, 32);
+        let m = together_word(t, x, true, ca, cb);
         store_word(out, i, x ^ m.ks);
         let next = m.state;
         t = next;
         i += 4;
     }
     if i < piece.len() {
-        let k = piece.len() - i;
+        let k = piece.len() % 4;
         let x = load_rest(piece, i, k);
-        let m = together(t, x, true, ca, cb, (8 * k) as u64);
+        let m = together_rest(t, x, true, ca, cb, (k - 1) as u64);
         store_rest(out, i, k, x ^ m.ks);
         let next = m.state;
         t = next;
@@ -101,15 +102,15 @@ pub fn absorb_data(s: State, piece: &[u8]) -> State
     let whole = piece.len() - piece.len() % 4;
     while i < whole {
         let x = load_word(piece, i);
-        let m = together(t, x, false, ca, cb, 32);
+        let m = together_word(t, x, false, ca, cb);
         let next = m.state;
         t = next;
         i += 4;
     }
     if i < piece.len() {
-        let k = piece.len() - i;
+        let k = piece.len() % 4;
         let x = load_rest(piece, i, k);
-        let m = together(t, x, false, ca, cb, (8 * k) as u64);
+        let m = together_rest(t, x, false, ca, cb, (k - 1) as u64);
         let next = m.state;
         t = next;
     }
@@ -127,15 +128,15 @@ pub fn check_text(s: State, piece: &[u8]) -> State
     let whole = piece.len() - piece.len() % 4;
     while i < whole {
         let x = load_word(piece, i);
-        let m = together(t, x, true, ca, cb, 32);
+        let m = together_word(t, x, true, ca, cb);
         let next = m.state;
         t = next;
         i += 4;
     }
     if i < piece.len() {
-        let k = piece.len() - i;
+        let k = piece.len() % 4;
         let x = load_rest(piece, i, k);
-        let m = together(t, x, true, ca, cb, (8 * k) as u64);
+        let m = together_rest(t, x, true, ca, cb, (k - 1) as u64);
         let next = m.state;
         t = next;
     }
@@ -159,7 +160,7 @@ pub fn start(key: &[u8], nonce: &[u8]) -> State
         let c = controls_at(n);
         let ca = c.ca;
         let cb = c.cb;
-        let m = together(t, x, false, ca, cb, 32);
+        let m = together_word(t, x, false, ca, cb);
         let next = m.state;
         t = next;
         n += 32;
@@ -169,7 +170,7 @@ pub fn start(key: &[u8], nonce: &[u8]) -> State
         let c = controls_at(n);
         let ca = c.ca;
         let cb = c.cb;
-        let m = together(t, x, false, ca, cb, 32);
+        let m = together_word(t, x, false, ca, cb);
         let next = m.state;
         t = next;
         n += 32;
@@ -179,7 +180,7 @@ pub fn start(key: &[u8], nonce: &[u8]) -> State
         let c = controls_at(n);
         let ca = c.ca;
         let cb = c.cb;
-        let m = together(t, x, false, ca, cb, 32);
+        let m = together_word(t, x, false, ca, cb);
         let next = m.state;
         t = next;
         n += 32;
@@ -199,7 +200,7 @@ pub fn end_data(s: State) -> State
         let c = controls_at(DATA_END + n);
         let ca = c.ca;
         let cb = c.cb;
-        let m = together(t, x, false, ca, cb, 32);
+        let m = together_word(t, x, false, ca, cb);
         let next = m.state;
         t = next;
         n += 32;
@@ -217,7 +218,7 @@ pub fn end_text(s: State) -> State
         let c = controls_at(TEXT_END + n);
         let ca = c.ca;
         let cb = c.cb;
-        let m = together(t, x, false, ca, cb, 32);
+        let m = together_word(t, x, false, ca, cb);
         let next = m.state;
         t = next;
         n += 32;
@@ -239,7 +240,7 @@ pub fn write_tag(s: State, out: &mut [u8])
         let c = controls_at(FINAL + n);
         let ca = c.ca;
         let cb = c.cb;
-        let m = together(t, 0, false, ca, cb, 32);
+        let m = together_word(t, 0, false, ca, cb);
         let next = m.state;
         t = next;
         n += 32;
@@ -249,7 +250,7 @@ pub fn write_tag(s: State, out: &mut [u8])
         let c = controls_at(FINAL + n);
         let ca = c.ca;
         let cb = c.cb;
-        let m = together(t, 0, false, ca, cb, 32);
+        let m = together_word(t, 0, false, ca, cb);
         store_word(out, i, m.ks);
         let next = m.state;
         t = next;

@@ -1,42 +1,21 @@
 -- The words that `together` makes hold the state after as many single steps.
 use mathlib.Core.Path.{_≡_, sym, ap, ap₂, _∙_}
-use mathlib.Core.Bool.{Bool, cond}
+use mathlib.Core.Bool.{Bool}
 use mathlib.Core.Logic.{⊎-elim}
 use Prim.Native.Nat.{ℕ, _+_, _-_, _/_, _^_, _<_, _≤_}
 use native.Mathlib.Omega.{arith}
-use borrow.Author.Tests.{lt-ltb, le-ltb}
 use lib.Bits.{bitAnd, bitXor}
 use Rattle.acorn_model.specs.Bits.{Bits, _⊕_, bit}
 use Rattle.acorn_model.specs.Step.{_⊕=_and_, lfsrUpdate, keystreamBit, feedbackBit, StepInput, run}
-use Rattle.acorn_kernel.specs.Together.{_bits_then_, stateOf, movedDown, inputsFrom, stepsRun, Together}
+use Rattle.acorn_kernel.specs.Together.{_bits_then_, stateOf, movedDown, inputsFrom, Together}
 use Rattle.acorn_kernel.specs.declared.State.{State}
 use Rattle.acorn_model.proofs.Numbers.{lt-or-ge, bit-shift}
-use Rattle.acorn_model.proofs.Runs.{run-none}
 use Rattle.acorn_kernel.proofs.Sequences.{then-same}
 use Rattle.acorn_kernel.proofs.ClosedForm.{entering, reaching289, leaving289, closed, ks-closed, run-above}
 use Rattle.acorn_kernel.proofs.WordBits.{bit-xor, bit-and}
 use Rattle.acorn_kernel.proofs.ShiftedBits.{own-bits}
 use Rattle.acorn_kernel.proofs.StateWords.{at0, at1, at2, at3, at4, at5, at6, at-above, state-is}
 use Rattle.acorn_kernel.proofs.StepWords.{updatedBit}
-
--- ## How many steps are run
-
-pub all-run : (k : ℕ) → k ≤ 32 → stepsRun k ≡ k
-all-run k h = ap (λ (t : Bool). cond t k 0) (lt-ltb k 33 (omega arith))
-
-pub none-run : (k : ℕ) → 33 ≤ k → stepsRun k ≡ 0
-none-run k h = ap (λ (t : Bool). cond t k 0) (le-ltb k 33 h)
-
--- the state stays where none is run
-pub together-none : (s : State) (x : ℕ) (opening ca cb : Bool) (k z : ℕ) → stepsRun k ≡ 0 → ((j : ℕ) → j < 32 → bit z j ≡ keystreamBit (movedDown j (stateOf s)))
-    → Together (stateOf s) x opening ca cb k (stateOf s) z
-together-none s x opening ca cb k z e hz =
-    record {
-      state = sym (ap (λ (n : ℕ). run (inputsFrom opening ca cb (bit x)) n (stateOf s)) e ∙ run-none (inputsFrom opening ca cb (bit x)) (stateOf s));
-      ks = λ j h. hz j h ∙ sym (ks-closed (inputsFrom opening ca cb (bit x)) (stateOf s) j h);
-    }
-
--- ## The steps
 
 -- the word of the bits that enter S292: f of the steps, their opening mask o, their ks z and the word x that they take
 abbrev pub enteringWord : ℕ → ℕ → ℕ → ℕ → ℕ
@@ -110,4 +89,4 @@ module _ (s : State) (x : ℕ) (opening ca cb : Bool) (k : ℕ) (hk : k ≤ 32) 
         last (run-above γ S (at-above s) k)
 
     pub together-steps : Together S x opening ca cb k (stateOf t) z
-    together-steps = record { state = after-is ∙ ap (λ (n : ℕ). run γ n S) (sym (all-run k hk)); ks = λ j h. hz j h ∙ sym (ks-closed γ S j h) }
+    together-steps = record { state = after-is; ks = λ j h. hz j h ∙ sym (ks-closed γ S j h) }

@@ -13,7 +13,7 @@ infixr 5 _bits_then_
 unfoldable pub _bits_then_ : ℕ → Bits → Bits → Bits
 _bits_then_ n a b p = a p if ltb p n else b (p - n)
 
--- S0 to S60, S61 to S106, S107 to S153, S154 to S192, S193 to S229, S230 to S292. Each word's own bits are its highest; those below are of no account.
+-- S0 to S60, S61 to S106, S107 to S153, S154 to S192, S193 to S229, S230 to S292. Each word's own bits are its highest; those below do not count.
 unfoldable pub stateOf : State → Bits
 stateOf s =
     61 bits bit (s .w0 / 2 ^ 3) then
@@ -42,11 +42,7 @@ movedDown q S p = S (p + q)
 abbrev pub inputsFrom : Bool → Bool → Bool → Bits → ℕ → StepInput
 inputsFrom opening ca cb b i = record { ca = ca; cb = cb; m = λ ks. (opening && ks) ⊕ b i }
 
--- how many steps are run together where k are asked for: all of up to 32, and none of more
-abbrev pub stepsRun : ℕ → ℕ
-stepsRun k = k if ltb k 33 else 0
-
--- such steps from S that take the bits of the word x: S′ is the state after as many, and the bits of the word z are the ks of 32
+-- such steps from S that take the bits of the word x: S′ is the state after k, at most 32, and the bits of the word z are the ks of 32
 pub record Together (S : Bits) (x : ℕ) (opening ca cb : Bool) (k : ℕ) (S′ : Bits) (z : ℕ) : Type 0 where
-  pub state : S′ ≡ run (inputsFrom opening ca cb (bit x)) (stepsRun k) S
+  pub state : S′ ≡ run (inputsFrom opening ca cb (bit x)) k S
   pub ks : (j : ℕ) → j < 32 → bit z j ≡ keystreamBit (run (inputsFrom opening ca cb (bit x)) j S)

@@ -8,14 +8,14 @@ use word::mask;
 use word::shifted;
 use word::shifted_last;
 ghost use mathlib.Core.Path.{_≡_};
-ghost use Prim.Native.Nat.{ℕ, _+_, _≤_, _<_};
+ghost use Prim.Native.Nat.{ℕ, _+_, _*_, _%_, _≤_, _<_};
 ghost use Rattle.acorn_model.specs.Bits.{_⊕_, bit};
 ghost use Rattle.acorn_model.specs.Step.{keystreamBit, feedbackBit};
 ghost use Rattle.acorn_model.specs.Stretches.{zeros as allZeros};
 ghost use Rattle.acorn_kernel.specs.Together.{stateOf, wordEnd, movedDown, Together};
 
 // The 293 bits in six words: S0 to S60, S61 to S106, S107 to S153, S154 to S192, S193 to S229, S230 to S292.
-// Each has the highest places of its word; the bits below are of no account.
+// Each has the highest places of its word; the bits below do not count.
 pub struct State {
     pub w0: u64,
     pub w1: u64,
@@ -98,33 +98,43 @@ fn feedback_word(s: State, ca: bool, cb: bool, z: u32) -> u32
         ^ (mask(cb) & z)
 }
 
-// k steps together, 1 to 32; of another k none is run. The message bits are x's in sealing, and x's ⊕ ks in opening.
-pub fn together(s: State, x: u32, opening: bool, ca: bool, cb: bool, k: u64) -> Stepped
+// k steps together, 1 to 32: the message bits are x's in sealing, and x's ⊕ ks in opening.
+fn together(s: State, x: u32, opening: bool, ca: bool, cb: bool, k: u64) -> Stepped
+    requires { ⌜ (1 ≤ k) × (k ≤ 32) ⌝ }
     ensures { λ r. ⌜ Together (stateOf s) x opening ca cb k (stateOf (r .state)) (r .ks) ⌝ }
 {
     let z = keystream_word(s);
-    match k {
-        1..=32 => {
-            let f = feedback_word(s, ca, cb, z);
-            let new = f ^ ((mask(opening) & z) ^ x);
-            let w0 = s.w0;
-            let w1 = s.w1;
-            let w2 = s.w2;
-            let w3 = s.w3;
-            let w4 = s.w4;
-            let w5 = s.w5;
-            Stepped {
-                state: State {
-                    w0: shifted(w0, updated(s, 61, 23, 0), k),
-                    w1: shifted(w1, updated(s, 107, 66, 61), k),
-                    w2: shifted(w2, updated(s, 154, 111, 107), k),
-                    w3: shifted(w3, updated(s, 193, 160, 154), k),
-                    w4: shifted(w4, updated(s, 230, 196, 193), k),
-                    w5: shifted_last(w5, from(s, 235) ^ from(s, 230), new, k),
-                },
-                ks: z,
-            }
-        }
-        _ => Stepped { state: s, ks: z },
+    let f = feedback_word(s, ca, cb, z);
+    let new = f ^ ((mask(opening) & z) ^ x);
+    let w0 = s.w0;
+    let w1 = s.w1;
+    let w2 = s.w2;
+    let w3 = s.w3;
+    let w4 = s.w4;
+    let w5 = s.w5;
+    Stepped {
+        state: State {
+            w0: shifted(w0, updated(s, 61, 23, 0), k),
+            w1: shifted(w1, updated(s, 107, 66, 61), k),
+            w2: shifted(w2, updated(s, 154, 111, 107), k),
+            w3: shifted(w3, updated(s, 193, 160, 154), k),
+            w4: shifted(w4, updated(s, 230, 196, 193), k),
+            w5: shifted_last(w5, from(s, 235) ^ from(s, 230), new, k),
+        },
+        ks: z,
     }
+}
+
+// 32 steps together, that take all bits of x.
+pub fn together_word(s: State, x: u32, opening: bool, ca: bool, cb: bool) -> Stepped
+    ensures { λ r. ⌜ Together (stateOf s) x opening ca cb 32 (stateOf (r .state)) (r .ks) ⌝ }
+{
+    together(s, x, opening, ca, cb, 32)
+}
+
+// Steps together that take the bits of the bytes of x up to byte `last`, 0 to 3; of another number its remainder by 4 counts.
+pub fn together_rest(s: State, x: u32, opening: bool, ca: bool, cb: bool, last: u64) -> Stepped
+    ensures { λ r. ⌜ Together (stateOf s) x opening ca cb (8 * (last % 4) + 8) (stateOf (r .state)) (r .ks) ⌝ }
+{
+    together(s, x, opening, ca, cb, 8 * (last % 4) + 8)
 }

@@ -16,7 +16,8 @@ use Rattle.call_lists.proofs.WriterReached.{fresh-writer-reached}
 use Rattle.call_lists.proofs.WriterAccepts.{machine-passed, comesTo, accepted-work}
 use Rattle.call_lists.proofs.WriterRuns.{HasRun, fresh-has-run, runs-on, comes}
 use Rattle.call_lists.specs.WriterLists.{AllAccepted}
-use Rattle.demands.specs.Examples.{Answers, SomeWriter, someHead, writerCalls, refusedWriterCalls, WriterExamples}
+use Rattle.tape_model.specs.RefusalCases.{goodHead}
+use Rattle.demands.specs.Examples.{Answers, SomeWriter, writerCalls, refusedWriterCalls, WriterExamples}
 use Rattle.demands.proofs.Writers.{writer-demand}
 use Rattle.demands.proofs.Exist.{writers-exist}
 use Rattle.demands.proofs.AllPass.{AllPass, all-same}
@@ -62,7 +63,7 @@ abbrev theirAnswers : List (Reply Work)
 theirAnswers = refused 1 ∷ refused 2 ∷ refused 3 ∷ refused 6 ∷ done (record { bytes = 9; steps = 1864 }) ∷ refused 4 ∷ []
 
 abbrev goodStart : WriterCall
-goodStart = start (replicate 16 0) someHead (replicate 9 0)
+goodStart = start (replicate 16 0) goodHead (replicate 9 0)
 
 start-passes : WriterPassed freshWriter goodStart
 unfolding freshWriter phaseAllows keyRight headRight ticketRight tapeFull outputShort headRule

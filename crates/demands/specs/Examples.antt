@@ -22,6 +22,7 @@ use Rattle.tape_model.specs.Ticket.{ticketLength, headLength, packHead}
 use Rattle.tape_model.specs.Tape.{nonceOf, openTape}
 use Rattle.tape_model.specs.Writer.{PlainWriter, WriterCall, start, add, finish}
 use Rattle.tape_model.specs.Cases.{ticketWith}
+use Rattle.tape_model.specs.RefusalCases.{goodHead, goodTicket}
 use Rattle.call_lists.specs.WriterLists.{AllAccepted}
 use Rattle.session.specs.declared.Session.{Session}
 use Rattle.session.specs.declared.Reply.{Reply as SessionReply}
@@ -115,22 +116,16 @@ abbrev pub SomeWriter : List WriterCall → (List (Entry WriterCall) → PlainWr
 SomeWriter cs P = (es : List (Entry WriterCall)) × (e : Writer) × WriterList es e × (callsOf es ≡ cs) × P es (writerOf e)
 
 -- the head of case (i), and the ticket of case (h)
-abbrev pub someHead : Head
-someHead = record { device = 7; shift = 2; sheet = 1 }
-
-abbrev pub someTicket : Ticket
-someTicket = ticketWith 3600 4200 250000 110000
-
 abbrev pub writerCalls : (key out ticketOut tagOut : List ℕ) → List WriterCall
-writerCalls key out ticketOut tagOut = start key someHead out ∷ add someTicket ticketOut ∷ finish tagOut ∷ []
+writerCalls key out ticketOut tagOut = start key goodHead out ∷ add goodTicket ticketOut ∷ finish tagOut ∷ []
 
 abbrev pub refusedWriterCalls : List WriterCall
 refusedWriterCalls =
     finish []
-    ∷ start [] someHead []
+    ∷ start [] goodHead []
     ∷ start (replicate 16 0) (record { device = 0; shift = 2; sheet = 1 }) []
-    ∷ start (replicate 16 0) someHead []
-    ∷ start (replicate 16 0) someHead (replicate 9 0)
+    ∷ start (replicate 16 0) goodHead []
+    ∷ start (replicate 16 0) goodHead (replicate 9 0)
     ∷ add (ticketWith 3600 4200 250000 250000) []
     ∷ []
 
@@ -162,7 +157,7 @@ OpeningReplies = (key tape out : List ℕ) → (r : OpenedTape) × (after : List
 abbrev pub TapeSeven : Type 0
 TapeSeven =
     (key tag out : List ℕ) → length key ≡ keyLength → length tag ≡ tagLength
-    → (tag ≡ newTag key (nonceOf (packHead someHead)) (packHead someHead) [] → ⊥) → openTape key (packHead someHead ++ tag) out .answer ≡ refused 7
+    → (tag ≡ newTag key (nonceOf (packHead goodHead)) (packHead goodHead) [] → ⊥) → openTape key (packHead goodHead ++ tag) out .answer ≡ refused 7
 
 -- ## All of it
 

@@ -1,5 +1,5 @@
--- Demand 3 on the interface for C: lists of exported calls on the words of a session, and on those of a writer. What these lists amount to, the
--- counts and the cuts, follow as for the methods, since they are read off the calls, answers and outputs alone.
+-- Demand 3 on the interface for C: lists of exported calls on the words of a session, and on those of a writer. Their calls, answers and outputs are
+-- the machine's and the plain writer's, so that `MachineLists` and `WriterLists` (call_lists) say of them what they amount to.
 use mathlib.Core.Path.{_≡_}
 use mathlib.Core.List.{List}
 use Prim.Native.Nat.{ℕ}

@@ -39,11 +39,10 @@ pub record SessionDemand : Type 0 where
   pub taken : (kind : Kind) (es : List (Entry Call)) (e : Session) → SessionList kind es e
       → (machineOf e .counts .dataBytes ≡ length (logOf es .«data»)) × (length (logOf es .«data») ≤ byteLimit)
       × (machineOf e .counts .textBytes ≡ length (logOf es .text)) × (length (logOf es .text) ≤ byteLimit)
-  -- once a close has ended the session, tag good or not, the count is 3,072 plus 8 for each byte of data and text taken
+  -- the count of an ended session: 3,072, and 8 a byte of data and text taken
   pub counted : (kind : Kind) (es : List (Entry Call)) (e : Session) → SessionList kind es e → Ended (machineOf e)
       → machineOf e .counts .steps ≡ endedSteps (logOf es)
-  -- wherever the pieces are cut, two ended sessions of one kind that are alike wrote the same bytes in as many steps and, checking, got the same
-  -- good or 7
+  -- cuts do not matter: ended sessions that are alike agree in bytes, steps and verdict
   pub cuts : (kind : Kind) (es es′ : List (Entry Call)) (e e′ : Session) → SessionList kind es e → SessionList kind es′ e′
       → Ended (machineOf e) → Ended (machineOf e′) → Alike kind (logOf es) (logOf es′)
       → (logOf es .written ≡ logOf es′ .written)

@@ -31,7 +31,7 @@ pub record ComesBack (key : List ℕ) (head : Head) (tickets : List Ticket) (es 
   -- opening these bytes into an output long enough answers the number of tickets and their total net, and writes the plain bytes
   pub opened : (out after : List ℕ) (r : OpenedTape) → ticketLength * length tickets ≤ length out → OpensTape key (writerLog es .written) out r after
       → (openedReply r ≡ done (record { tickets = length tickets; net = totalNet tickets })) × (after ≡ writtenOver (packTickets tickets) out)
-  -- and a reader over what it wrote hands out these tickets in turn, and then is at the end for good
+  -- and a reader over what it wrote hands out these tickets in turn, and then stays at the end
   pub read : (out after : List ℕ) (r : OpenedTape) → ticketLength * length tickets ≤ length out → OpensTape key (writerLog es .written) out r after
       → (bytes : RefT (List ℕ)) → now bytes ≡ take (ticketLength * length tickets) after → HandsOut bytes tickets (done atEnd)
 

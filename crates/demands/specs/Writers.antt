@@ -31,10 +31,10 @@ pub record WriterDemand : Type 0 where
   -- it has counted the tickets added, at most 5,000
   pub tickets : (es : List (Entry WriterCall)) (e : Writer) → WriterList es e
       → (writerOf e .tickets ≡ length (writerLog es .tickets)) × (length (writerLog es .tickets) ≤ ticketLimit)
-  -- the bytes written are the accepted head's nine, then the one-step machine's for that key and head, the accepted tickets and accepted finish
+  -- the bytes written: the head's, and then what the one-step machine writes for the calls that the accepted ones come to
   pub written : (es : List (Entry WriterCall)) (e : Writer) → WriterList es e
       → writerLog es .written ≡ headsOf (writerLog es .starts) ++ logOf (entries call (fresh Sealing) (writerLog es .machineCalls)) .written
-  -- with no accepted start there are none
+  -- nothing is written before an accepted start
   pub none : (es : List (Entry WriterCall)) (e : Writer) → WriterList es e → writerLog es .starts ≡ [] → writerLog es .written ≡ []
   -- a finished writer was started once; it has written the tape of that key, that head and the tickets added, and these come back from it
   pub tape : (es : List (Entry WriterCall)) (e : Writer) → WriterList es e → writerOf e .phase ≡ Closed

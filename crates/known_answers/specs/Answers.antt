@@ -23,7 +23,7 @@ AllGiven (a ∷ others) = Given a × AllGiven others
 abbrev pub sixteenZeros : List ℕ
 sixteenZeros = replicate 16 0
 
--- answers of the designer's reference code, as published: one byte of text, and one byte of data
+-- answers of ACORN-128 version 3 as a public test suite has them (docs/DECISIONS.md): one byte of text, and one byte of data
 abbrev pub published : List KnownAnswer
 published =
     record {

@@ -1,5 +1,5 @@
 -- What comes of reading, by the contracts of `Reader::new` and `Reader::next`: a reader over the bytes that opening a tape wrote hands out the
--- tape's tickets in turn, and then is at the end for good; and what it does over other bytes.
+-- tape's tickets in turn, and then stays at the end; and what it does over other bytes.
 use mathlib.Core.Path.{_≡_}
 use mathlib.Core.Bool.{true, false}
 use mathlib.Core.List.{List, [], _∷_, _++_}
@@ -39,13 +39,13 @@ pub record ReaderList (bytes : RefT (List ℕ)) (answers : List (Reply Reading))
 
 -- ## What is handed out
 
--- n answers: the tickets in turn, and then the last answer for good
+-- n answers: the tickets in turn, and then the last answer again and again
 abbrev pub inTurn : List Ticket → Reply Reading → ℕ → List (Reply Reading)
 inTurn tickets last zero = []
 inTurn [] last (suc n) = last ∷ inTurn [] last n
 inTurn (t ∷ ts) last (suc n) = done (ticket t) ∷ inTurn ts last n
 
--- a reader over these bytes hands out these tickets in turn, and then answers the last for good, where it does not move any more
+-- a reader over these bytes hands out these tickets in turn, and then answers the last again and again, where it does not move any more
 abbrev pub HandsOut : RefT (List ℕ) → List Ticket → Reply Reading → Type 0
 HandsOut bytes tickets last = (answers : List (Reply Reading)) (e : Reader) → ReaderList bytes answers e
     → (answers ≡ inTurn tickets last (length answers)) × (readerOf e ≡ readerAt (now bytes) (length (take (length answers) tickets)))

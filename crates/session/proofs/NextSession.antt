@@ -17,7 +17,7 @@ use Rattle.acorn_model.specs.Machine.{Machine, isSealing, isChecking, isData, r
 use Rattle.acorn_kernel.specs.declared.State.{State}
 use Rattle.acorn_kernel.specs.Together.{stateOf}
 use Rattle.session.specs.declared.Session.{Session}
-use Rattle.session.specs.Contracts.{machineOf, wrapped, wrappedMachine, endedState, endedSteps}
+use Rattle.session.specs.Contracts.{machineOf, wrapped, wrappedMachine, endedState, dataEndSteps}
 
 -- field by field
 pub stands-for : (z : Session) (m : Machine) → z .kind ≡ m .kind → z .phase ≡ m .phase → stateOf (z .state) ≡ m .state
@@ -33,7 +33,7 @@ stands-for z m kind phase state dataBytes textBytes steps = λ i. record {
 
 -- ## The data end
 
-pub ended-steps-small : (phase : Phase) → endedSteps phase ≤ 256
+pub ended-steps-small : (phase : Phase) → dataEndSteps phase ≤ 256
 ended-steps-small phase = by (isData phase)
   where
     by : (t : Bool) → (dataEnd .steps if t else 0) ≤ 256
@@ -64,7 +64,7 @@ module _ (m : Machine) where
 
 -- ## Text and close
 
-module _ (s : Session) (state : State) (k n : ℕ) (e : k ≡ endedSteps (s .phase)) where
+module _ (s : Session) (state : State) (k n : ℕ) (e : k ≡ dataEndSteps (s .phase)) where
   pub text-session : (piece : List ℕ) → stateOf state ≡ textTaken piece (machineOf s) .state → n ≡ (s .steps + (k + 8 * length piece)) % 2 ^ 64
       → machineOf (record { state = state; «data_bytes» = s .«data_bytes»; «text_bytes» = s .«text_bytes» + length piece; steps = n; kind = s .kind; phase = Text })
       ≡ wrappedMachine (textTaken piece (machineOf s))

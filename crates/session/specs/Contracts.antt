@@ -69,8 +69,8 @@ doneReply bytes s = record { answer = Done bytes (s .steps); session = s }
 unfoldable pub endedState : Phase → Bits → Bits
 endedState phase S = through dataEnd S if isData phase else S
 
-abbrev pub endedSteps : Phase → ℕ
-endedSteps phase = dataEnd .steps if isData phase else 0
+abbrev pub dataEndSteps : Phase → ℕ
+dataEndSteps phase = dataEnd .steps if isData phase else 0
 
 -- the smallest number that applies, by a call's four tests
 abbrev pub refusalBy : Bool → Bool → Bool → Bool → ℕ

@@ -9,7 +9,7 @@ ghost use mathlib.Core.Path.{_≡_};
 ghost use mathlib.Core.Bool.{true};
 ghost use Rattle.acorn_model.specs.Stretches.{through, textPiece, textEnd};
 ghost use Rattle.acorn_kernel.specs.Together.{stateOf};
-ghost use Rattle.session.specs.Contracts.{endedState, endedSteps};
+ghost use Rattle.session.specs.Contracts.{endedState, dataEndSteps};
 
 // The same state, taken word by word. A state that is taken whole goes by two words at a time, and waits where a run has just stored
 // them one by one.
@@ -39,7 +39,7 @@ pub(crate) fn data_ended(phase: Phase, state: State) -> State
 
 // The steps of that data end.
 pub(crate) fn data_end_steps(phase: Phase) -> u64
-    ensures { λ r. ⌜ r ≡ endedSteps phase ⌝ }
+    ensures { λ r. ⌜ r ≡ dataEndSteps phase ⌝ }
 {
     if is_data(phase) { 256 } else { 0 }
 }

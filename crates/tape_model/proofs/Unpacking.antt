@@ -25,7 +25,7 @@ unpacked-count (suc n) s ts e =
     taken-apart (λ l. length l ≡ suc n) (unpackTicket (take 13 s)) (unpackTickets n (drop 13 s)) ts e
     (λ t us f g. ap suc (unpacked-count n (drop 13 s) us g))
 
--- the ticket at i; the default is of no account
+-- the ticket at i; the default does not count
 pub unpacked-at : (n i : ℕ) (s : List ℕ) (ts : List Ticket) (t₀ : Ticket) → i < n → unpackTickets n s ≡ done ts → unpackTicket (take 13 (drop (13 * i) s)) ≡ done (getD ts i t₀)
 unfolding unpackTickets
 unpacked-at zero i s ts t₀ h e = absurd (omega arith)

@@ -36,7 +36,7 @@ pub record FieldCases : Type 0 where
   pub tipped : OfTicket 6 (3600 ∷ 43199 ∷ []) (3599 ∷ 43200 ∷ [])
   pub gross : OfTicket 7 (110001 ∷ 1048575 ∷ []) (110000 ∷ 1048576 ∷ [])
   pub tare : OfTicket 8 (0 ∷ 1048574 ∷ []) (1048575 ∷ [])
-  pub spare : OfTicket 9 (0 ∷ []) (1 ∷ [])
+  pub spare : OfTicket 9 (0 ∷ []) (1 ∷ 2 ∷ 3 ∷ [])
   pub device : OfHead 0 (1 ∷ 4294967295 ∷ []) (0 ∷ 4294967296 ∷ [])
   pub shift : OfHead 1 (1 ∷ 1000000 ∷ []) (0 ∷ 1000001 ∷ [])
   pub sheet : OfHead 2 (1 ∷ 1000000 ∷ []) (0 ∷ 1000001 ∷ [])

@@ -81,7 +81,7 @@ pub record TapeLaws (key : List ℕ) (head : Head) (tickets : List Ticket) : Typ
       → openTape key (tapeOf key head tickets) out
       ≡ record { answer = done (record { tickets = length tickets; net = totalNet tickets }); out = writtenOver (packTickets tickets) out }
   pub totals : plainTotals (packTickets tickets) ≡ done (record { tickets = length tickets; net = totalNet tickets })
-  -- a reader over the plain bytes hands out the tickets in turn, and then is at the end for good
+  -- a reader over the plain bytes hands out the tickets in turn, and then stays at the end
   pub reads : readings (length tickets) (readerOver (packTickets tickets)) ≡ asReadings tickets
   pub ends : (n : ℕ) → readNext (readerAfter (length tickets + n) (readerOver (packTickets tickets))) .answer ≡ done atEnd
   -- key and tape are listed

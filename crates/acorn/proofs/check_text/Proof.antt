@@ -34,8 +34,8 @@ loop-holds c = (refl, omega arith, omega arith, state-none _ _)
 load-word-requires : tie.Need-load-word-requires Inv-loop μ-loop
 load-word-requires c κs = omega arith
 
-together-requires : tie.Need-together-requires Inv-loop μ-loop
-together-requires c κs = search needs
+together-word-requires : tie.Need-together-word-requires Inv-loop μ-loop
+together-word-requires c κs = search needs
 
 add-i : tie.Need-add-i Inv-loop μ-loop
 add-i c = omega arith
@@ -54,25 +54,22 @@ loop-again c =
     let word = loaded .load-word in
     let ca = controlled .before .ca-at in
     let cb = controlled .cb-at in
-    let run = stepped .together in (
+    let run = stepped .together-word in (
       v .inv .0,
       omega arith,
       omega arith,
-      text-more (a .piece .now) (stateOf (a .s)) (stateOf (v .t)) (stateOf (run .result .state)) (v .i) 4 (word .result) (run .result .ks) (omega arith) (word .ensures)
+      text-more (a .piece .now) (stateOf (a .s)) (stateOf (v .t)) (stateOf (run .result .state)) (v .i) 4 32 (word .result) (run .result .ks) (omega arith) (omega arith) (word .ensures)
           (ca .result) (cb .result) true (ca .ensures) (cb .ensures) (v .inv .3) (run .ensures),
     )
-
-sub-k : tie.Need-sub-k Inv-loop μ-loop
-sub-k c = omega arith
 
 load-rest-requires : tie.Need-load-rest-requires Inv-loop μ-loop
 load-rest-requires c κs = omega arith
 
-mul-together : tie.Need-mul-together Inv-loop μ-loop
-mul-together c = omega arith
+sub-together-rest : tie.Need-sub-together-rest Inv-loop μ-loop
+sub-together-rest c = omega arith
 
-together-requires-2 : tie.Need-together-requires-2 Inv-loop μ-loop
-together-requires-2 c κs = search needs
+together-rest-requires : tie.Need-together-rest-requires Inv-loop μ-loop
+together-rest-requires c κs = search needs
 
 returns : tie.Need-returns Inv-loop μ-loop
 unfolding firstStep
@@ -85,10 +82,10 @@ returns c =
     let word = loaded .load-rest in
     let ca = controlled .before .ca-at in
     let cb = controlled .cb-at in
-    let run = stepped .together2 in
-    let k = length (a .piece .now) - v .i in
+    let run = stepped .together-rest in
+    let k = length (a .piece .now) % 4 in
     state-all (textPiece true (a .piece .now)) (stateOf (a .s)) (stateOf (run .result .state)) (8 * (v .i + k)) (omega arith)
-    (text-more (a .piece .now) (stateOf (a .s)) (stateOf (v .t)) (stateOf (run .result .state)) (v .i) k (word .result) (run .result .ks) (omega arith) (word .ensures)
+    (text-more (a .piece .now) (stateOf (a .s)) (stateOf (v .t)) (stateOf (run .result .state)) (v .i) k (8 * ((k - 1) % 4) + 8) (word .result) (run .result .ks) (omega arith) (omega arith) (word .ensures)
     (ca .result) (cb .result) true (ca .ensures) (cb .ensures) (v .inv .3) (run .ensures))
 
 returns-2 : tie.Need-returns-2 Inv-loop μ-loop
@@ -108,13 +105,12 @@ check-text-spec =
     sub-whole
     loop-holds
     load-word-requires
-    together-requires
+    together-word-requires
     add-i
     loop-less
     loop-again
-    sub-k
     load-rest-requires
-    mul-together
-    together-requires-2
+    sub-together-rest
+    together-rest-requires
     returns
     returns-2)

@@ -33,8 +33,8 @@ add-controls-at c = omega arith
 controls-at-requires : tie.Need-controls-at-requires Inv-loop μ-loop
 controls-at-requires c κs = search needs
 
-together-requires : tie.Need-together-requires Inv-loop μ-loop
-together-requires c κs = search needs
+together-word-requires : tie.Need-together-word-requires Inv-loop μ-loop
+together-word-requires c κs = search needs
 
 add-n : tie.Need-add-n Inv-loop μ-loop
 add-n c = omega arith
@@ -51,7 +51,7 @@ loop-again c =
     let S = stateOf (worded .before .before .before .args .s) in
     let word = worded .leading-one in
     let controls = controlled .controls-at in
-    let run = c .before .together in (
+    let run = c .before .together-word in (
       omega arith,
       omega arith,
       end-more true S (stateOf (v .t)) (stateOf (run .result .state)) (v .n) (word .result) (run .result .ks) (controls .result .ca) (controls .result .cb) (omega arith) (v .inv .1)
@@ -73,7 +73,7 @@ end-data-spec =
     leading-one-requires
     add-controls-at
     controls-at-requires
-    together-requires
+    together-word-requires
     add-n
     loop-less
     loop-again

@@ -1,7 +1,7 @@
 -- `acorn::seal_text` meets its contract. The invariant: i bytes of the piece, a multiple of 4, are run and written.
 use mathlib.Core.Path.{_≡_, refl, _∙_}
 use mathlib.Core.Bool.{false}
-use Prim.Native.Nat.{_≤_, _+_, _-_, _%_}
+use Prim.Native.Nat.{_≤_, _+_, _-_, _*_, _%_}
 use native.Mathlib.Omega.{arith}
 use borrow.Author.Needs.{needs}
 use lib.ListN.{length}
@@ -36,8 +36,8 @@ loop-holds c = (refl, omega arith, omega arith, refl, text-none _ _ _ _)
 load-word-requires : tie.Need-load-word-requires Inv-loop μ-loop
 load-word-requires c κs = omega arith
 
-together-requires : tie.Need-together-requires Inv-loop μ-loop
-together-requires c κs = search needs
+together-word-requires : tie.Need-together-word-requires Inv-loop μ-loop
+together-word-requires c κs = search needs
 
 store-word-requires : tie.Need-store-word-requires Inv-loop μ-loop
 store-word-requires c κs = omega arith
@@ -60,27 +60,24 @@ loop-again c =
     let word = loaded .load-word in
     let ca = controlled .before .ca-at in
     let cb = controlled .cb-at in
-    let run = stepped .together in
+    let run = stepped .together-word in
     let store = stored .store-word in (
       v .inv .0,
       omega arith,
       omega arith,
       store .kept .0 ∙ v .inv .3,
-      text-further false (stateOf (a .s)) (a .piece .now) (a .out .now) (v .i) 4 (word .result) (run .result .ks) (stateOf (v .t)) (stateOf (run .result .state)) (v .out) (store .last .0)
-          (ca .result) (cb .result) (omega arith) (ca .ensures) (cb .ensures) (v .inv .4) (word .ensures) (run .ensures) (store .ensures),
+      text-further false (stateOf (a .s)) (a .piece .now) (a .out .now) (v .i) 4 32 (word .result) (run .result .ks) (stateOf (v .t)) (stateOf (run .result .state)) (v .out) (store .last .0)
+          (ca .result) (cb .result) (omega arith) (omega arith) (ca .ensures) (cb .ensures) (v .inv .4) (word .ensures) (run .ensures) (store .ensures),
     )
-
-sub-k : tie.Need-sub-k Inv-loop μ-loop
-sub-k c = omega arith
 
 load-rest-requires : tie.Need-load-rest-requires Inv-loop μ-loop
 load-rest-requires c κs = omega arith
 
-mul-together : tie.Need-mul-together Inv-loop μ-loop
-mul-together c = omega arith
+sub-together-rest : tie.Need-sub-together-rest Inv-loop μ-loop
+sub-together-rest c = omega arith
 
-together-requires-2 : tie.Need-together-requires-2 Inv-loop μ-loop
-together-requires-2 c κs = search needs
+together-rest-requires : tie.Need-together-rest-requires Inv-loop μ-loop
+together-rest-requires c κs = search needs
 
 store-rest-requires : tie.Need-store-rest-requires Inv-loop μ-loop
 store-rest-requires c κs = omega arith
@@ -100,12 +97,12 @@ returns-2 c =
     let word = loaded .load-rest in
     let ca = controlled .before .ca-at in
     let cb = controlled .cb-at in
-    let run = stepped .together2 in
+    let run = stepped .together-rest in
     let store = stored .store-rest in
-    let k = length (a .piece .now) - v .i in
+    let k = length (a .piece .now) % 4 in
     text-all false (stateOf (a .s)) (a .piece .now) (a .out .now) (v .i + k) (stateOf (run .result .state)) (store .last .0) (omega arith) (omega arith)
-    (text-further false (stateOf (a .s)) (a .piece .now) (a .out .now) (v .i) k (word .result) (run .result .ks) (stateOf (v .t)) (stateOf (run .result .state)) (v .out) (store .last .0)
-    (ca .result) (cb .result) (omega arith) (ca .ensures) (cb .ensures) (v .inv .4) (word .ensures) (run .ensures) (store .ensures))
+    (text-further false (stateOf (a .s)) (a .piece .now) (a .out .now) (v .i) k (8 * ((k - 1) % 4) + 8) (word .result) (run .result .ks) (stateOf (v .t)) (stateOf (run .result .state)) (v .out) (store .last .0)
+    (ca .result) (cb .result) (omega arith) (omega arith) (ca .ensures) (cb .ensures) (v .inv .4) (word .ensures) (run .ensures) (store .ensures))
 
 same-length-2 : tie.Need-same-length-2 Inv-loop μ-loop
 same-length-2 c = c .before .before .loop .inv .3
@@ -128,15 +125,14 @@ seal-text-spec =
     sub-whole
     loop-holds
     load-word-requires
-    together-requires
+    together-word-requires
     store-word-requires
     add-i
     loop-less
     loop-again
-    sub-k
     load-rest-requires
-    mul-together
-    together-requires-2
+    sub-together-rest
+    together-rest-requires
     store-rest-requires
     same-length
     returns-2

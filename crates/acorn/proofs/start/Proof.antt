@@ -51,8 +51,8 @@ load-word-requires c κs = omega arith
 controls-at-requires : tie.Need-controls-at-requires Inv-loop μ-loop Inv-loop2 μ-loop2 Inv-loop3 μ-loop3
 controls-at-requires c κs = search needs
 
-together-requires : tie.Need-together-requires Inv-loop μ-loop Inv-loop2 μ-loop2 Inv-loop3 μ-loop3
-together-requires c κs = search needs
+together-word-requires : tie.Need-together-word-requires Inv-loop μ-loop Inv-loop2 μ-loop2 Inv-loop3 μ-loop3
+together-word-requires c κs = search needs
 
 add-n : tie.Need-add-n Inv-loop μ-loop Inv-loop2 μ-loop2 Inv-loop3 μ-loop3
 add-n c = omega arith
@@ -68,7 +68,7 @@ loop-again c =
     let a = loaded .before .before .before .before .before .before .before .before .args in
     let word = loaded .load-word in
     let controls = controlled .controls-at in
-    let steps = c .before .together in (
+    let steps = c .before .together-word in (
       omega arith,
       omega arith,
       start-more (a .key .now) (a .nonce .now) zeros (stateOf (v .t)) (stateOf (steps .result .state)) (v .n) (word .result) (steps .result .ks) (controls .result .ca) (controls .result .cb)
@@ -87,8 +87,8 @@ load-word-requires-2 c κs = omega arith
 controls-at-requires-2 : tie.Need-controls-at-requires-2 Inv-loop μ-loop Inv-loop2 μ-loop2 Inv-loop3 μ-loop3
 controls-at-requires-2 c κs = search needs
 
-together-requires-2 : tie.Need-together-requires-2 Inv-loop μ-loop Inv-loop2 μ-loop2 Inv-loop3 μ-loop3
-together-requires-2 c κs = search needs
+together-word-requires-2 : tie.Need-together-word-requires-2 Inv-loop μ-loop Inv-loop2 μ-loop2 Inv-loop3 μ-loop3
+together-word-requires-2 c κs = search needs
 
 add-n-2 : tie.Need-add-n-2 Inv-loop μ-loop Inv-loop2 μ-loop2 Inv-loop3 μ-loop3
 add-n-2 c = omega arith
@@ -104,7 +104,7 @@ loop2-again c =
     let a = loaded .before .before .before .before .before .before .before .before .before .before .args in
     let word = loaded .load-word2 in
     let controls = controlled .controls-at2 in
-    let steps = c .before .together2 in (
+    let steps = c .before .together-word2 in (
       omega arith,
       omega arith,
       omega arith,
@@ -121,8 +121,8 @@ key-again-requires c κs = omega arith
 controls-at-requires-3 : tie.Need-controls-at-requires-3 Inv-loop μ-loop Inv-loop2 μ-loop2 Inv-loop3 μ-loop3
 controls-at-requires-3 c κs = search needs
 
-together-requires-3 : tie.Need-together-requires-3 Inv-loop μ-loop Inv-loop2 μ-loop2 Inv-loop3 μ-loop3
-together-requires-3 c κs = search needs
+together-word-requires-3 : tie.Need-together-word-requires-3 Inv-loop μ-loop Inv-loop2 μ-loop2 Inv-loop3 μ-loop3
+together-word-requires-3 c κs = search needs
 
 add-n-3 : tie.Need-add-n-3 Inv-loop μ-loop Inv-loop2 μ-loop2 Inv-loop3 μ-loop3
 add-n-3 c = omega arith
@@ -138,7 +138,7 @@ loop3-again c =
     let a = loaded .before .before .before .before .before .before .before .before .before .before .before .before .args in
     let word = loaded .key-again in
     let controls = controlled .controls-at3 in
-    let steps = c .before .together3 in (
+    let steps = c .before .together-word3 in (
       omega arith,
       omega arith,
       omega arith,
@@ -169,7 +169,7 @@ start-spec =
     loop-holds
     load-word-requires
     controls-at-requires
-    together-requires
+    together-word-requires
     add-n
     loop-less
     loop-again
@@ -177,14 +177,14 @@ start-spec =
     sub-load-word
     load-word-requires-2
     controls-at-requires-2
-    together-requires-2
+    together-word-requires-2
     add-n-2
     loop2-less
     loop2-again
     loop3-holds
     key-again-requires
     controls-at-requires-3
-    together-requires-3
+    together-word-requires-3
     add-n-3
     loop3-less
     loop3-again

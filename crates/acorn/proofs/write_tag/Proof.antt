@@ -39,8 +39,8 @@ add-controls-at c = omega arith
 controls-at-requires : tie.Need-controls-at-requires Inv-loop μ-loop Inv-loop2 μ-loop2
 controls-at-requires c κs = search needs
 
-together-requires : tie.Need-together-requires Inv-loop μ-loop Inv-loop2 μ-loop2
-together-requires c κs = search needs
+together-word-requires : tie.Need-together-word-requires Inv-loop μ-loop Inv-loop2 μ-loop2
+together-word-requires c κs = search needs
 
 add-n : tie.Need-add-n Inv-loop μ-loop Inv-loop2 μ-loop2
 add-n c = omega arith
@@ -54,7 +54,7 @@ loop-again c =
     let v = controlled .before .before .loop in
     let S = stateOf (controlled .before .before .before .before .before .args .s) in
     let controls = controlled .controls-at in
-    let steps = c .before .together in (
+    let steps = c .before .together-word in (
       omega arith,
       omega arith,
       final-more S (stateOf (v .t)) (stateOf (steps .result .state)) (1050880 + v .n) (v .n) (steps .result .ks) (controls .result .ca) (controls .result .cb)
@@ -70,8 +70,8 @@ add-controls-at-2 c = omega arith
 controls-at-requires-2 : tie.Need-controls-at-requires-2 Inv-loop μ-loop Inv-loop2 μ-loop2
 controls-at-requires-2 c κs = search needs
 
-together-requires-2 : tie.Need-together-requires-2 Inv-loop μ-loop Inv-loop2 μ-loop2
-together-requires-2 c κs = search needs
+together-word-requires-2 : tie.Need-together-word-requires-2 Inv-loop μ-loop Inv-loop2 μ-loop2
+together-word-requires-2 c κs = search needs
 
 store-word-requires : tie.Need-store-word-requires Inv-loop μ-loop Inv-loop2 μ-loop2
 store-word-requires c κs = omega arith
@@ -94,7 +94,7 @@ loop2-again c =
     let T = stateOf (controlled .before .before .before .before .loop .t) in
     let out₀ = controlled .before .before .before .before .before .before .before .args .out .now in
     let controls = controlled .controls-at2 in
-    let steps = stepped .together2 in
+    let steps = stepped .together-word2 in
     let store = stored .store-word in
     let e : 8 * v .i + 32 ≡ 8 * (v .i + 4) = omega arith in (
       omega arith,
@@ -135,14 +135,14 @@ write-tag-spec =
     loop-holds
     add-controls-at
     controls-at-requires
-    together-requires
+    together-word-requires
     add-n
     loop-less
     loop-again
     loop2-holds
     add-controls-at-2
     controls-at-requires-2
-    together-requires-2
+    together-word-requires-2
     store-word-requires
     add-n-2
     add-i

@@ -1,10 +1,8 @@
 -- `acorn_kernel::together` meets its contract.
-use mathlib.Core.Path.{_≡_, ap, ap₂, _∙_}
-use native.Mathlib.Omega.{arith}
+use mathlib.Core.Path.{ap₂, _∙_}
 use Rattle.acorn_model.specs.Bits.{_⊕_}
-use Rattle.acorn_kernel.specs.Together.{stepsRun}
 use Rattle.acorn_kernel.proofs.WordBits.{bit-xor}
-use Rattle.acorn_kernel.proofs.TogetherSteps.{together-steps, together-none, none-run}
+use Rattle.acorn_kernel.proofs.TogetherSteps.{together-steps}
 use borrow.Author.Needs.{needs}
 use Rattle.acorn_kernel.proofs.together.Statement.{statement}
 use Rattle.acorn_kernel.proofs.together.Tie as tie
@@ -73,27 +71,15 @@ returns c =
     let u0 = r0 .before in
     let o = u0 .before in
     let f = o .before in
-    let z = f .before .before .before in
-    let a = z .before .args in
-    together-steps (a .s) (a .x) (a .opening) (a .ca) (a .cb) (a .k) (omega arith) (z .keystream-word .result) (f .feedback-word .result) (o .mask .result)
+    let z = f .before in
+    let start = z .before in
+    let a = start .args in
+    together-steps (a .s) (a .x) (a .opening) (a .ca) (a .cb) (a .k) (start .pre .1) (z .keystream-word .result) (f .feedback-word .result) (o .mask .result)
     (z .keystream-word .ensures) (f .feedback-word .ensures) (o .mask .ensures) _
     (u0 .updated .result) (u1 .updated2 .result) (u2 .updated3 .result) (u3 .updated4 .result) (u4 .updated5 .result) _
     (u0 .updated .ensures) (r0 .shifted .ensures) (u1 .updated2 .ensures) (r1 .shifted2 .ensures) (u2 .updated3 .ensures) (r2 .shifted3 .ensures) (u3 .updated4 .ensures) (r3 .shifted4 .ensures)
     (u4 .updated5 .ensures) (r4 .shifted5 .ensures)
     (λ q l. bit-xor (p235 .from .result) (p230 .from2 .result) q ∙ ap₂ _⊕_ (p235 .from .ensures q l) (p230 .from2 .ensures q l)) (c .shifted-last .ensures .0) (c .shifted-last .ensures .1)
-
-returns-2 : tie.Need-returns-2
-returns-2 c =
-    let z = c .before in
-    let a = z .before .args in
-    let e : a .k ≡ 0 = omega arith in
-    together-none (a .s) (a .x) (a .opening) (a .ca) (a .cb) (a .k) (z .keystream-word .result) (ap stepsRun e) (z .keystream-word .ensures)
-
-returns-3 : tie.Need-returns-3
-returns-3 c =
-    let z = c .before .before in
-    let a = z .before .args in
-    together-none (a .s) (a .x) (a .opening) (a .ca) (a .cb) (a .k) (z .keystream-word .result) (none-run (a .k) (omega arith)) (z .keystream-word .ensures)
 
 pub together-spec : {M : Type 1} → statement M
 together-spec =
@@ -115,6 +101,4 @@ together-spec =
     from-requires
     from-requires-2
     shifted-last-requires
-    returns
-    returns-2
-    returns-3)
+    returns)
