@@ -5,6 +5,7 @@ pub mod Numbers
 pub mod Refusals
 pub mod Messages
 pub mod Tied
+pub mod TiedExports
 pub mod Standing
 pub mod Exist
 pub mod AllPass
