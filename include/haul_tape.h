@@ -8,13 +8,21 @@
  *
  * Secrets: the words of a session or writer that is not closed are as secret as its key. A close that is done or ends with 7, and a
  * finish that is done, put zeros in place of the cipher's state, so that counts and phase are left; one that is sent back stores
- * nothing. ht_open, ht_open_tape and ht_list_tape leave decrypted text on the stack, a refused one (7, 8) too: who must not leave it
- * there clears the stack below.
+ * nothing. An opening that ends with 7 leaves nothing of the decrypted text on the stack; one that ends with 8, or a listing with 6,
+ * no 8 bytes of it in a row, but single fields of a ticket and sums may stay. A call that is done may leave text there, and every
+ * call that runs the cipher words of its state, which with the ciphertext give the text: who must not leave these clears the
+ * stack below. In sealing, sessions, the writer, opening and listing no branch and no address depends on the key, the text or the
+ * state, but for the verdict on a tag, the rule on a ticket, and what a listing prints. Tested, as built for x86-64.
  *
  * A key and nonce must serve one message only, and a key and head one tape only: the caller sees to that.
  *
- * Stack, as measured on x86-64: 74 KiB for ht_open and ht_open_tape, whatever the lengths; ht_list_tape as said there; under 1 KiB
- * for each other call.
+ * Stack, at most, from the return address down, tested on x86-64 (a dynamic linker that binds memcpy and memset late takes more,
+ * once):
+ *
+ *   ht_open       640 bytes without text; 3 KiB for text up to 2,048 bytes, 10 KiB up to 8,192, 20 KiB up to 16,384, 74 KiB above
+ *   ht_open_tape  1,280 bytes up to 39 tickets; 4 KiB up to 157, 10 KiB up to 630, 66 KiB above
+ *   ht_list_tape  65 KiB
+ *   each other    640 bytes
  *
  * Each answer has a field `refused`: 0 where the call was done, else the number that sent it back. The smallest number that
  * applies is given, and the rest of the answer is 0 (a reading's position stays). A refused call changes nothing: every
@@ -145,8 +153,7 @@ typedef struct { uint32_t refused; uint32_t at_end; uint64_t position; ht_ticket
 ht_reading ht_read_ticket(const uint8_t *plain, size_t plainlen, uint64_t position);
 
 /* The listing of a tape as ASCII text: 'TAPE', device, shift and sheet; a line a ticket; 'TOTAL', tickets and total net. Of a tape
- * that does not open the text is 'REFUSED' and the number, and the call is done. 6 where the text does not fit. Uses some 325 KiB
- * of the stack. */
+ * that does not open the text is 'REFUSED' and the number, and the call is done. 6 where the text does not fit. */
 ht_written ht_list_tape(const uint8_t *key, size_t keylen, const uint8_t *tape, size_t tapelen, uint8_t *out, size_t outlen);
 
 #ifdef __cplusplus

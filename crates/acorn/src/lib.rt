@@ -60,6 +60,38 @@ pub fn seal_text(s: State, piece: &[u8], out: &mut [u8]) -> State
     t
 }
 
+// The same. A piece of 13 bytes is run without a loop, so that a caller that has just made its bytes need not store them; any other goes to
+// `seal_text`.
+pub fn seal_13(s: State, piece: &[u8], out: &mut [u8]) -> State
+    ensures { λ r. ⌜ TextRun false (stateOf s) (now (piece .entry)) (now (out .entry)) (stateOf r) (now (out .exit)) ⌝ }
+{
+    if piece.len() != 13 {
+        return seal_text(s, piece, out);
+    }
+    if out.len() < 13 {
+        return s;
+    }
+    let ca = ca_at(TEXT);
+    let cb = cb_at(TEXT);
+    let x0 = load_word(piece, 0);
+    let m0 = together_word(s, x0, false, ca, cb);
+    store_word(out, 0, x0 ^ m0.ks);
+    let s1 = m0.state;
+    let x1 = load_word(piece, 4);
+    let m1 = together_word(s1, x1, false, ca, cb);
+    store_word(out, 4, x1 ^ m1.ks);
+    let s2 = m1.state;
+    let x2 = load_word(piece, 8);
+    let m2 = together_word(s2, x2, false, ca, cb);
+    store_word(out, 8, x2 ^ m2.ks);
+    let s3 = m2.state;
+    let x3 = load_rest(piece, 12, 1);
+    let m3 = together_rest(s3, x3, false, ca, cb, 0);
+    store_rest(out, 12, 1, x3 ^ m3.ks);
+    let s4 = m3.state;
+    s4
+}
+
 // Ciphertext is decrypted into out, where out has room for it; else nothing is done. The text's bits enter the state.
 pub fn decrypt(s: State, piece: &[u8], out: &mut [u8]) -> State
     ensures { λ r. ⌜ TextRun true (stateOf s) (now (piece .entry)) (now (out .entry)) (stateOf r) (now (out .exit)) ⌝ }

@@ -18,8 +18,9 @@ use Rattle.message.proofs.seal.Reads as seal-reads
 use Rattle.message.proofs.open as open'
 use Rattle.message.proofs.open.Kinds as open-kinds
 use Rattle.message.proofs.open.Reads as open-reads
+use Rattle.tape_model.specs.Tape.{openedReply}
 use Rattle.tape_model.specs.Writer as plain
-use Rattle.tape.specs.Contracts.{writerOf, WriterCalled}
+use Rattle.tape.specs.Contracts.{writerOf, WriterCalled, openScratch}
 use Rattle.demands.specs.Refusals.{OpensTape, PacksTicket, PacksHead, UnpacksTicket, UnpacksHead}
 use Rattle.ticket.proofs.pack_ticket as pack-ticket'
 use Rattle.ticket.proofs.pack_ticket.Kinds as pack-ticket-kinds
@@ -42,12 +43,18 @@ use Rattle.tape.proofs.Writer.start.Reads as start-reads
 use Rattle.tape.proofs.Writer.add as add'
 use Rattle.tape.proofs.Writer.add.Kinds as add-kinds
 use Rattle.tape.proofs.Writer.add.Reads as add-reads
+use Rattle.tape.proofs.Writer.add_first as add-first'
+use Rattle.tape.proofs.Writer.add_first.Kinds as add-first-kinds
+use Rattle.tape.proofs.Writer.add_first.Reads as add-first-reads
 use Rattle.tape.proofs.Writer.finish as finish'
 use Rattle.tape.proofs.Writer.finish.Kinds as finish-kinds
 use Rattle.tape.proofs.Writer.finish.Reads as finish-reads
 use Rattle.tape.proofs.open_tape as open-tape'
 use Rattle.tape.proofs.open_tape.Kinds as open-tape-kinds
 use Rattle.tape.proofs.open_tape.Reads as open-tape-reads
+use Rattle.tape.proofs.open_scratch as open-scratch'
+use Rattle.tape.proofs.open_scratch.Kinds as open-scratch-kinds
+use Rattle.tape.proofs.open_scratch.Reads as open-scratch-reads
 use Rattle.session.proofs.Session.fresh as fresh'
 use Rattle.session.proofs.Session.fresh.Kinds as fresh-kinds
 use Rattle.session.proofs.Session.fresh.Reads as fresh-reads
@@ -60,6 +67,9 @@ use Rattle.session.proofs.Session.data.Reads as data-reads
 use Rattle.session.proofs.Session.seal_text as seal-text'
 use Rattle.session.proofs.Session.seal_text.Kinds as seal-text-kinds
 use Rattle.session.proofs.Session.seal_text.Reads as seal-text-reads
+use Rattle.session.proofs.Session.seal_13 as seal-13'
+use Rattle.session.proofs.Session.seal_13.Kinds as seal-13-kinds
+use Rattle.session.proofs.Session.seal_13.Reads as seal-13-reads
 use Rattle.session.proofs.Session.check_text as check-text'
 use Rattle.session.proofs.Session.check_text.Kinds as check-text-kinds
 use Rattle.session.proofs.Session.check_text.Reads as check-text-reads
@@ -101,6 +111,14 @@ module _ (κs : Lifetimes.Lfts 2) (a : World.ArgsD seal-text'.signature κs) whe
   seal-text-says : (r : World.ResD seal-text'.signature κs) (x : Clauses.AtExit (Kinds'.endedOf 2 seal-text-kinds.ps seal-text-kinds.r) κs) → seal-text-reads.Learnt κs a r x
       → Called (a .0) (machine.sealText (now (a .1 .0)) (now (a .1 .1 .0))) r (now (x .1 .1 .0))
   seal-text-says r x h = h
+
+module _ (κs : Lifetimes.Lfts 2) (a : World.ArgsD seal-13'.signature κs) where
+  seal-13-asks : seal-13-reads.Asked κs a
+  seal-13-asks = tt
+
+  seal-13-says : (r : World.ResD seal-13'.signature κs) (x : Clauses.AtExit (Kinds'.endedOf 2 seal-13-kinds.ps seal-13-kinds.r) κs) → seal-13-reads.Learnt κs a r x
+      → Called (a .0) (machine.sealText (now (a .1 .0)) (now (a .1 .1 .0))) r (now (x .1 .1 .0))
+  seal-13-says r x h = h
 
 module _ (κs : Lifetimes.Lfts 1) (a : World.ArgsD check-text'.signature κs) where
   check-text-asks : check-text-reads.Asked κs a
@@ -166,6 +184,14 @@ module _ (κs : Lifetimes.Lfts 1) (a : World.ArgsD add'.signature κs) where
       → WriterCalled (a .0) (plain.add (a .1 .0) (now (a .1 .1 .0))) r (now (x .1 .1 .0))
   add-says r x h = h
 
+module _ (κs : Lifetimes.Lfts 1) (a : World.ArgsD add-first'.signature κs) where
+  add-first-asks : add-first-reads.Asked κs a
+  add-first-asks = tt
+
+  add-first-says : (r : World.ResD add-first'.signature κs) (x : Clauses.AtExit (Kinds'.endedOf 1 add-first-kinds.ps add-first-kinds.r) κs) → add-first-reads.Learnt κs a r x
+      → WriterCalled (a .0) (plain.add (a .1 .0) (now (a .1 .1 .0))) r (now (x .1 .1 .0))
+  add-first-says r x h = h
+
 module _ (κs : Lifetimes.Lfts 1) (a : World.ArgsD finish'.signature κs) where
   finish-asks : finish-reads.Asked κs a
   finish-asks = tt
@@ -181,6 +207,14 @@ module _ (κs : Lifetimes.Lfts 3) (a : World.ArgsD open-tape'.signature κs) whe
   open-tape-says : (r : World.ResD open-tape'.signature κs) (x : Clauses.AtExit (Kinds'.endedOf 3 open-tape-kinds.ps open-tape-kinds.r) κs) → open-tape-reads.Learnt κs a r x
       → OpensTape (now (a .0)) (now (a .1 .0)) (now (a .1 .1 .0)) r (now (x .1 .1 .0))
   open-tape-says r x h = h
+
+module _ (κs : Lifetimes.Lfts 3) (a : World.ArgsD open-scratch'.signature κs) where
+  open-scratch-asks : open-scratch-reads.Asked κs a
+  open-scratch-asks = tt
+
+  open-scratch-says : (r : World.ResD open-scratch'.signature κs) (x : Clauses.AtExit (Kinds'.endedOf 3 open-scratch-kinds.ps open-scratch-kinds.r) κs) → open-scratch-reads.Learnt κs a r x
+      → openScratch (now (a .0)) (now (a .1 .0)) (now (a .1 .1 .0)) ≡ record { answer = openedReply r; out = now (x .1 .1 .0) }
+  open-scratch-says r x h = h
 
 module _ (κs : Lifetimes.Lfts 1) (a : World.ArgsD pack-ticket'.signature κs) where
   pack-ticket-asks : pack-ticket-reads.Asked κs a

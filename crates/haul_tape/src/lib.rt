@@ -214,11 +214,17 @@ pub extern "C" fn ht_writer_start(
     writer_handed_back(w, reply)
 }
 
+// The first ticket goes another way than the others, so that these have no data end to pass by.
 #[no_mangle]
 pub extern "C" fn ht_writer_add(w: &mut [u64; 12], ticket: Ticket, out: &mut [u8]) -> HtAnswer
     ensures { λ r. ⌜ WriterSeen (now (w .entry)) (plain.add ticket (now (out .entry))) (now (w .exit)) r (now (out .exit)) ⌝ }
 {
-    let reply = Writer::from_words(w).add(ticket, out);
+    let writer = Writer::from_words(w);
+    if writer.in_text() {
+        let reply = writer.add(ticket, out);
+        return writer_handed_back(w, reply);
+    }
+    let reply = writer.add_first(ticket, out);
     writer_handed_back(w, reply)
 }
 

@@ -8,21 +8,20 @@ use native.Mathlib.Omega.{arith}
 use lib.Dec.{eqb, leb}
 use lib.ListN.{length, take, drop, length-take, length-drop, drop-of-length-le}
 use lib.Seq.{take-all, take-length, drop-length}
-use borrow.Author.Tests.{lt-leb, le-ltb, ne-eqb}
+use borrow.Author.Tests.{lt-leb, ne-eqb}
 use Rattle.acorn_model.specs.Bits.{_if_else_}
 use Rattle.acorn_model.specs.declared.Written.{Written}
 use Rattle.acorn_model.specs.Calls.{refused, done, writtenReply, writtenOver}
 use Rattle.acorn_model.specs.Machine.{keyLength}
 use Rattle.acorn_model.specs.Message.{Result}
 use Rattle.acorn_model.proofs.Numbers.{lt-or-ge}
-use Rattle.acorn_model.proofs.Messages.{result-written}
 use Rattle.tape_model.specs.Ticket.{ticketLength}
 use Rattle.tape_model.specs.Tape.{ticketLimit, ticketsLength, emptyTapeLength, tapeLength, tapeOf, openRefusal}
 use Rattle.tape_model.specs.Listing.{refusedLine, listingUnless, listing, printed}
 use Rattle.tape_model.proofs.Tapes.{tapes-come-back}
-use Rattle.ticket.specs.Packing.{putInto}
 use Rattle.listing.specs.Contracts.{Wrote, Listed, textRoom}
 use Rattle.listing.specs.Laws.{longestInput, ListingFacts}
+use Rattle.listing.proofs.Texts.{fits-out}
 use Rattle.listing.proofs.Longest.{longest}
 
 -- ## Where the key ends
@@ -78,14 +77,10 @@ printed-length input = longest (take keyLength input) (drop keyLength input)
 
 -- ## What a call comes to that is lent room enough
 
-fits : (text out : List ℕ) → length text ≤ length out → putInto text out ≡ record { answer = done (length text); out = writtenOver text out }
-unfolding putInto
-fits text out room = result-written _ (length text) text out (rw (le-ltb (length out) (length text) room))
-
 pub input-listed : (input out : List ℕ) (answer : Written) (after : List ℕ) → textRoom ≤ length out → Listed (printed input) out answer after
     → (writtenReply answer ≡ done (length (printed input))) × (after ≡ writtenOver (printed input) out)
 input-listed input out answer after room met =
-    let e = sym met ∙ fits (printed input) out (omega (arith, printed-length input)) in
+    let e = sym met ∙ fits-out (printed input) out (omega (arith, printed-length input)) in
     (ap (λ (r : Result ℕ). r .answer) e, ap (λ (r : Result ℕ). r .out) e)
 
 -- the same by the answer: it is no refusal, and a length that was answered is the text's

@@ -1,12 +1,10 @@
 -- No listing is longer than 190,054 bytes: a head's line has at most 32, a ticket's line 38, and the line of totals 22.
-use mathlib.Core.Path.{_≡_, refl, ap, subst, _∙_}
-use mathlib.Core.Bool.{Bool, true, false}
+use mathlib.Core.Path.{_≡_, refl, ap, subst}
 use mathlib.Core.List.{List, [], _∷_, _++_}
-use Prim.Native.Nat.{ℕ, zero, suc, _+_, _*_, _/_, _%_, _^_, _≤_, _<_}
+use Prim.Native.Nat.{ℕ, zero, suc, _+_, _*_, _^_, _≤_, _<_}
 use native.Mathlib.Omega.{arith}
-use lib.Dec.{eqb, ltb}
+use lib.Dec.{eqb}
 use lib.ListN.{length, take, drop, replicate, length-append}
-use Rattle.acorn_model.specs.Bits.{_if_else_}
 use Rattle.acorn_model.specs.Calls.{Reply, refused, done}
 use Rattle.acorn_model.proofs.Choices.{both}
 use Rattle.tape_model.specs.declared.Ticket.{Ticket}
@@ -14,26 +12,14 @@ use Rattle.tape_model.specs.declared.Head.{Head}
 use Rattle.tape_model.specs.Format.{widths, inRanges, unpack}
 use Rattle.tape_model.specs.Ticket.{form1, ticketLength, ticketOf, ordered, valuesRule, net, unpackTicket, headFormat, headLength, headOf, unpackHead}
 use Rattle.tape_model.specs.Tape.{ticketLimit, unpackTickets, ticketsIn, totalNet, headBytes, ticketCount, plainBytes, openRefusal}
-use Rattle.tape_model.specs.Listing.{space, lineEnd, wordTape, wordTotal, wordRefused, decimalBelow, decimal, numbers, headLine, ticketLine, ticketLines, totalLine, refusedLine, listed, listingUnless, listing}
+use Rattle.tape_model.specs.Listing.{headLine, ticketLine, ticketLines, totalLine, refusedLine, listed, listingUnless, listing}
 use Rattle.tape_model.proofs.Ranges.{in-ranges}
 use Rattle.tape_model.proofs.Inverses.{unpack-passed}
 use Rattle.tape_model.proofs.Opening.{size, tickets-good}
 use Rattle.tape_model.proofs.Listing.{decimal-length}
 use Rattle.listing.specs.Contracts.{textRoom}
+use Rattle.listing.proofs.LineLengths.{digits-room, refused-length, head-length, totals-length, ticket-length}
 use Rattle.tape_model.proofs.Unpacking.{taken-apart, unpacked-count, told}
-
--- ## Numbers
-
-number-length : (n : ℕ) (ns : List ℕ) → length (numbers (n ∷ ns)) ≡ 1 + length (decimal n) + length (numbers ns)
-unfolding numbers
-number-length n ns = length-append (space ++ decimal n) (numbers ns) ∙ omega arith
-
-no-numbers : length (numbers []) ≡ 0
-unfolding numbers
-no-numbers = refl
-
-line-length : (word ns : List ℕ) → length (word ++ numbers ns ++ lineEnd) ≡ length word + length (numbers ns) + 1
-line-length word ns = length-append (word ++ numbers ns) lineEnd ∙ ap (λ (k : ℕ). k + 1) (length-append word (numbers ns))
 
 -- ## Lines
 
@@ -49,21 +35,11 @@ record Short (t : Ticket) : Type 0 where
   net-below : net t ≤ 1048575
 
 ticket-line-length : (p : ℕ) (t : Ticket) → p < 10 ^ 4 → Short t → length (ticketLine p t) ≤ 38
-unfolding ticketLine
 ticket-line-length p t small s =
-    let ns : List ℕ = t .truck ∷ t .shovel ∷ t .tip ∷ t .grade ∷ t .loaded ∷ t .tipped ∷ net t ∷ [] in
     omega (
       arith,
-      line-length (decimal p) ns,
+      ticket-length p t,
       decimal-length 3 p small,
-      number-length (t .truck) (t .shovel ∷ t .tip ∷ t .grade ∷ t .loaded ∷ t .tipped ∷ net t ∷ []),
-      number-length (t .shovel) (t .tip ∷ t .grade ∷ t .loaded ∷ t .tipped ∷ net t ∷ []),
-      number-length (t .tip) (t .grade ∷ t .loaded ∷ t .tipped ∷ net t ∷ []),
-      number-length (t .grade) (t .loaded ∷ t .tipped ∷ net t ∷ []),
-      number-length (t .loaded) (t .tipped ∷ net t ∷ []),
-      number-length (t .tipped) (net t ∷ []),
-      number-length (net t) [],
-      no-numbers,
       decimal-length 3 (t .truck) (s .truck-short),
       decimal-length 1 (t .shovel) (s .shovel-short),
       decimal-length 1 (t .tip) (s .tip-short),
@@ -91,44 +67,13 @@ total-net-bound (t ∷ ts) s = omega (arith, s .0 .net-below, total-net-bound ts
 total-line-length : (ts : List Ticket) → length ts ≤ 5000 → AllShort ts → length (totalLine ts) ≤ 22
 unfolding totalLine
 total-line-length ts few s =
-    omega (
-      arith,
-      line-length wordTotal (length ts ∷ totalNet ts ∷ []),
-      number-length (length ts) (totalNet ts ∷ []),
-      number-length (totalNet ts) [],
-      no-numbers,
-      decimal-length 3 (length ts) (omega arith),
-      decimal-length 9 (totalNet ts) (omega (arith, total-net-bound ts s)),
-    )
-
--- a number takes no more than the room for its digits
-digits-room : (room n : ℕ) → length (decimalBelow room n) ≤ room
-unfolding decimalBelow
-digits-room zero n = omega arith
-digits-room (suc room) n = by (ltb n 10) (digits-room room (n / 10))
-  where
-    by : (b : Bool) → length (decimalBelow room (n / 10)) ≤ room → length (((0x30 + n) ∷ []) if b else (decimalBelow room (n / 10) ++ ((0x30 + n % 10) ∷ []))) ≤ suc room
-    by true h = omega arith
-    by false h = omega (arith, h, length-append (decimalBelow room (n / 10)) ((0x30 + n % 10) ∷ []))
+    omega (arith, totals-length (length ts) (totalNet ts), decimal-length 3 (length ts) (omega arith), decimal-length 9 (totalNet ts) (omega (arith, total-net-bound ts s)))
 
 refused-line-length : (n : ℕ) → length (refusedLine n) ≤ 29
-unfolding refusedLine
-refused-line-length n = omega (arith, line-length wordRefused (n ∷ []), number-length n [], no-numbers, digits-room 20 n)
+refused-line-length n = omega (arith, refused-length n, digits-room 20 n)
 
 head-line-length : (h : Head) → h .device < 10 ^ 10 → h .shift < 10 ^ 7 → h .sheet < 10 ^ 7 → length (headLine h) ≤ 32
-unfolding headLine
-head-line-length h d s t =
-    omega (
-      arith,
-      line-length wordTape (h .device ∷ h .shift ∷ h .sheet ∷ []),
-      number-length (h .device) (h .shift ∷ h .sheet ∷ []),
-      number-length (h .shift) (h .sheet ∷ []),
-      number-length (h .sheet) [],
-      no-numbers,
-      decimal-length 9 (h .device) d,
-      decimal-length 6 (h .shift) s,
-      decimal-length 6 (h .sheet) t,
-    )
+head-line-length h d s t = omega (arith, head-length h, decimal-length 9 (h .device) d, decimal-length 6 (h .shift) s, decimal-length 6 (h .sheet) t)
 
 -- ## What unpacks is short
 

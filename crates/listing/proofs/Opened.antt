@@ -8,16 +8,34 @@ use lib.Dec.{eqb}
 use lib.ListN.{length, take, replicate, length-replicate}
 use borrow.Author.Tests.{le-ltb}
 use Rattle.acorn_model.specs.Bits.{_if_else_}
-use Rattle.acorn_model.specs.Calls.{Reply, refused, done}
+use Rattle.acorn_model.specs.Calls.{Reply, refused, done, writtenOver}
 use Rattle.acorn_model.specs.Machine.{keyLength}
-use Rattle.acorn_model.proofs.Messages.{refused-told}
+use Rattle.acorn_model.specs.Message.{Result}
+use Rattle.acorn_model.proofs.Messages.{refused-told, done-told}
 use Rattle.tape_model.specs.declared.Ticket.{Ticket}
 use Rattle.tape_model.specs.declared.Head.{Head}
 use Rattle.tape_model.specs.Ticket.{ticketLength, unpackHead}
 use Rattle.tape_model.specs.Tape.{unpackTickets, isRefused, ticketsIn, totalNet, Totals, tapeLength, headBytes, ticketCount, plainBytes, openRefusal, openTape}
 use Rattle.tape_model.specs.Listing.{refusedLine, listed, listingUnless, listing}
 use Rattle.tape_model.proofs.Opening.{TapeSize, sizes-told, text-length, tickets-good, plain-count, plain-sized, was-accepted, net-is, front}
+use Rattle.tape.specs.Contracts.{scratchAfter, openScratch}
 use Rattle.listing.specs.Contracts.{PlainTickets, unpacked, longestPlain}
+
+-- ## Opening into a scratch
+
+module _ (key tape scratch after : List ℕ) where
+  pub same-answer : (a : Reply Totals) → openScratch key tape scratch ≡ record { answer = a; out = after } → openTape key tape scratch ≡ record { answer = a; out = openTape key tape scratch .out }
+  unfolding openScratch
+  same-answer a e = ap (λ (r : Result Totals). record { answer = r .answer; out = openTape key tape scratch .out }) e
+
+  -- where no number applies, the same bytes are written
+  pub as-opened : (k : Totals) → openScratch key tape scratch ≡ record { answer = done k; out = after } → openTape key tape scratch ≡ record { answer = done k; out = after }
+  unfolding openTape openScratch scratchAfter
+  as-opened k e =
+      let o = same-answer (done k) e in
+      let t = done-told _ _ _ scratch k _ o in
+      let written : writtenOver (plainBytes key tape) scratch ≡ after = ap (λ (n : ℕ). scratchAfter n (plainBytes key tape) scratch) (sym (t .0)) ∙ ap (λ (r : Result Totals). r .out) e in
+      o ∙ ap (λ (l : List ℕ). record { answer = done k; out = l }) (sym (t .2) ∙ written)
 
 -- ## The chain of numbers
 

@@ -1,16 +1,20 @@
 -- Text piece by piece: a byte or a string behind what is written, numbers one at a time, and a number digit by digit.
-use mathlib.Core.Path.{_≡_, refl, sym, ap, subst, _∙_}
+use mathlib.Core.Path.{_≡_, refl, sym, ap, ap₂, subst, _∙_}
 use mathlib.Core.List.{List, [], _∷_, _++_, append-assoc, append-nil}
 use Prim.Native.Nat.{ℕ, suc, _+_, _-_, _/_, _%_, _^_, _≤_, _<_}
 use native.Mathlib.Omega.{arith}
 use lib.ListN.{length, getD, set, take, drop, length-append, length-take, length-drop, take-append-drop}
-use lib.Seq.{drop-cons, set-at, take-suc, take-length, take-at}
+use lib.Seq.{drop-cons, set-at, take-suc, take-length}
 use borrow.Rule.Slice.PartMut.{putMid}
-use Rattle.acorn_model.specs.Calls.{writtenOver}
+use borrow.Author.Tests.{le-ltb, lt-ltb}
+use Rattle.acorn_model.specs.declared.Written.the-variants.{Refused, Done}
+use Rattle.acorn_model.specs.Calls.{done, writtenReply, writtenOver}
+use Rattle.acorn_model.proofs.Messages.{result-written, result-refused}
 use Rattle.acorn_model.proofs.Writing.{written-length, written-behind}
 use Rattle.tape_model.specs.Listing.{space, lineEnd, decimal, numbers}
 use Rattle.tape_model.proofs.Listing.{decimal-one, decimal-more}
-use Rattle.listing.specs.Contracts.{Wrote}
+use Rattle.ticket.specs.Packing.{putInto}
+use Rattle.listing.specs.Contracts.{Wrote, Listed}
 
 -- ## Any text
 
@@ -148,9 +152,19 @@ line-parts word ns = sym (append-assoc word (numbers ns) lineEnd)
 
 -- ## What was written
 
-pub wrote-front : {text before after : List ℕ} {r : ℕ} → Wrote text before r after → take r after ≡ text
-unfolding writtenOver
-wrote-front {text} {before} {after} {r} w = ap (take r) (w .written) ∙ take-at text (drop (length text) before) r (sym (w .count))
-
 pub wrote-within : {text before after : List ℕ} {r : ℕ} → length text ≤ length before → Wrote text before r after → r ≤ length after
 wrote-within room w = omega (arith, w .count, wrote-length room w)
+
+-- ## A text that fits into the output, and one that does not
+
+pub fits-out : (text out : List ℕ) → length text ≤ length out → putInto text out ≡ record { answer = done (length text); out = writtenOver text out }
+unfolding putInto
+fits-out text out room = result-written _ (length text) text out (rw (le-ltb (length out) (length text) room))
+
+pub listed-whole : {text out after : List ℕ} {r : ℕ} → length text ≤ length out → Wrote text out r after → Listed text out (Done r) after
+unfolding writtenReply
+listed-whole {text} {out} room w = fits-out text out room ∙ ap₂ (λ (n : ℕ) (l : List ℕ). record { answer = done n; out = l }) (sym (w .count)) (sym (w .written))
+
+pub listed-short : (text : List ℕ) {out : List ℕ} → length out < length text → Listed text out (Refused 6) out
+unfolding putInto writtenReply
+listed-short text {out} short = rw (lt-ltb (length out) (length text) short) (result-refused 6 (length text) text out (λ e. omega arith))

@@ -2,11 +2,12 @@
 use mathlib.Core.Path.{_≡_, refl, sym, ap, _∙_}
 use mathlib.Core.Bool.{true, false}
 use mathlib.Core.List.{List, [], _∷_, _++_, append-assoc, append-nil}
-use Prim.Native.Nat.{ℕ, suc, _+_, _-_, _/_, _≤_, _<_}
+use Prim.Native.Nat.{ℕ, suc, _+_, _-_, _/_, _%_, _≤_, _<_}
 use native.Mathlib.Omega.{arith}
+use lib.Dec.{eqb}
 use lib.ListN.{length, getD, take, drop, length-append, take-append-drop}
 use lib.Seq.{take-all, take-suc, length-take-le}
-use borrow.Author.Tests.{lt-leb}
+use borrow.Author.Tests.{lt-leb, leb-true}
 use borrow.Rule.Slice.PartMut.{putMid}
 use Rattle.tape_model.specs.declared.Ticket.{Ticket}
 use mathlib.Core.Logic.{_⊎_, ⊎-elim}
@@ -15,7 +16,8 @@ use Rattle.tape_model.specs.declared.NextTicket.{NextTicket}
 use Rattle.tape_model.specs.declared.NextTicket.the-variants.{Refused, Done, End}
 use Rattle.tape_model.proofs.NextTicket.{enum as next-ticket}
 use Rattle.acorn_model.specs.Calls.{done}
-use Rattle.tape_model.specs.Tape.{ticketsLength, unpackTickets, isRefused, ticketsIn}
+use Rattle.acorn_model.proofs.Choices.{both}
+use Rattle.tape_model.specs.Tape.{ticketLimit, ticketsLength, unpackTickets, isRefused, ticketsIn}
 use Rattle.tape_model.specs.Reader.{ticket, handedOut, readNext, nextReply}
 use Rattle.tape_model.specs.Listing.{lineEnd, decimal, numbers, ticketNumbers, ticketLine, ticketLines}
 use Rattle.tape_model.proofs.Unpacking.{unpacked-count, unpacked-at, told}
@@ -61,7 +63,7 @@ lines-joined p (t ∷ ts) us =
     ap (λ (l : List ℕ). ticketLine p t ++ l) (lines-joined (p + 1) ts us ∙ ap (λ (q : ℕ). ticketLines (p + 1) ts ++ ticketLines q us) {x = p + 1 + length ts} {y = p + suc (length ts)} (omega arith))
     ∙ sym (append-assoc (ticketLine p t) (ticketLines (p + 1) ts) (ticketLines (p + suc (length ts)) us))
 
-module _ (plain out : List ℕ) (sized : ticketsLength (length plain) ≡ true) (good : isRefused (unpacked plain) ≡ false) (room : length (linesOf plain) ≤ length out) where
+module _ (plain : List ℕ) (sized : ticketsLength (length plain) ≡ true) (good : isRefused (unpacked plain) ≡ false) where
   abbrev tickets : List Ticket
   tickets = ticketsIn (unpacked plain)
 
@@ -72,16 +74,20 @@ module _ (plain out : List ℕ) (sized : ticketsLength (length plain) ≡ true) 
   count : length tickets ≡ length plain / 13
   count = unpacked-count (length plain / 13) plain tickets unpacks
 
-  lines-within : (i : ℕ) → length (ticketLines 1 (take i tickets)) ≤ length out
+  pub few : length plain / 13 ≤ ticketLimit
+  unfolding ticketsLength
+  few = leb-true _ _ (both (eqb (length plain % 13) 0) _ sized .1)
+
+  lines-within : (i : ℕ) → length (ticketLines 1 (take i tickets)) ≤ length (linesOf plain)
   unfolding linesOf
   lines-within i =
       let e = ap (λ (ts : List Ticket). length (ticketLines 1 ts)) (sym (take-append-drop i tickets)) ∙ ap length (lines-joined 1 (take i tickets) (drop i tickets))
       ∙ length-append (ticketLines 1 (take i tickets)) (ticketLines (1 + length (take i tickets)) (drop i tickets)) in
       omega (arith, e)
 
-  pub all-lines : (i at : ℕ) (after : List ℕ) → length plain / 13 ≤ i → Wrote (ticketLines 1 (take i tickets)) out at after → Wrote (linesOf plain) out at after
+  pub all-lines : (i : ℕ) → length plain / 13 ≤ i → ticketLines 1 (take i tickets) ≡ linesOf plain
   unfolding linesOf
-  all-lines i at after h w = wrote-as (ap (ticketLines 1) (take-all i tickets (omega (arith, count)))) w
+  all-lines i h = ap (ticketLines 1) (take-all i tickets (omega (arith, count)))
 
   module _ (i : ℕ) (here : i < length plain / 13) where
     -- what the reader hands out there
@@ -106,7 +112,7 @@ module _ (plain out : List ℕ) (sized : ticketsLength (length plain) ≡ true) 
           is-done (Done t) e = refl
           is-done End e = let z : _≡_ {A = ℕ} 0 1 = cc in absurd (omega arith)
 
-    module _ (t : Ticket) (read : done (ticket t) ≡ readNext (record { string = plain; position = i }) .answer) (mid : List ℕ) (at : ℕ) (so-far : Wrote (ticketLines 1 (take i tickets)) out at mid) where
+    module _ (t : Ticket) (read : done (ticket t) ≡ readNext (record { string = plain; position = i }) .answer) where
       is-ticket : t ≡ getD tickets i t
       is-ticket = let e : done (ticket t) ≡ done (ticket (getD tickets i t)) = read ∙ handed t in cc
 
@@ -119,18 +125,22 @@ module _ (plain out : List ℕ) (sized : ticketsLength (length plain) ≡ true) 
           ∙ ap (ticketLines 1) (sym (take-suc tickets i t (omega (arith, count))))
           ∙ ap (λ (k : ℕ). ticketLines 1 (take k tickets)) {x = suc i} {y = i + 1} (omega arith)
 
-      more-room : length (ticketLines 1 (take i tickets) ++ ticketLine (i + 1) t) ≤ length out
-      more-room = omega (arith, ap length one-more, lines-within (i + 1))
+      pub length-more : length (ticketLines 1 (take (i + 1) tickets)) ≡ length (ticketLines 1 (take i tickets)) + length (ticketLine (i + 1) t)
+      length-more = ap length (sym one-more) ∙ length-append (ticketLines 1 (take i tickets)) (ticketLine (i + 1) t)
 
-      pub ticket-start : at ≤ length mid
-      ticket-start = behind-start (ticketLines 1 (take i tickets)) (ticketLine (i + 1) t) out mid at more-room so-far
+      module _ (out : List ℕ) (room : length (linesOf plain) ≤ length out) (mid : List ℕ) (at : ℕ) (so-far : Wrote (ticketLines 1 (take i tickets)) out at mid) where
+        more-room : length (ticketLines 1 (take i tickets) ++ ticketLine (i + 1) t) ≤ length out
+        more-room = omega (arith, ap length one-more, lines-within (i + 1))
 
-      pub ticket-room : length (ticketLine (i + 1) t) ≤ length (take (length mid - at) (drop at mid))
-      ticket-room = behind-room (ticketLines 1 (take i tickets)) (ticketLine (i + 1) t) out mid at more-room so-far
+        pub ticket-start : at ≤ length mid
+        ticket-start = behind-start (ticketLines 1 (take i tickets)) (ticketLine (i + 1) t) out mid at more-room so-far
 
-      module _ (r : ℕ) (part : List ℕ) (w : Wrote (ticketLine (i + 1) t) (take (length mid - at) (drop at mid)) r part) where
-        pub ticket-wrote : Wrote (ticketLines 1 (take (i + 1) tickets)) out (at + r) (putMid at (length mid - at) mid part)
-        ticket-wrote = wrote-as one-more (behind-wrote (ticketLines 1 (take i tickets)) (ticketLine (i + 1) t) out mid at more-room so-far r part w)
+        pub ticket-room : length (ticketLine (i + 1) t) ≤ length (take (length mid - at) (drop at mid))
+        ticket-room = behind-room (ticketLines 1 (take i tickets)) (ticketLine (i + 1) t) out mid at more-room so-far
 
-        pub ticket-within : at + r ≤ length out
-        ticket-within = behind-within (ticketLines 1 (take i tickets)) (ticketLine (i + 1) t) out mid at more-room so-far r part w
+        module _ (r : ℕ) (part : List ℕ) (w : Wrote (ticketLine (i + 1) t) (take (length mid - at) (drop at mid)) r part) where
+          pub ticket-wrote : Wrote (ticketLines 1 (take (i + 1) tickets)) out (at + r) (putMid at (length mid - at) mid part)
+          ticket-wrote = wrote-as one-more (behind-wrote (ticketLines 1 (take i tickets)) (ticketLine (i + 1) t) out mid at more-room so-far r part w)
+
+          pub ticket-within : at + r ≤ length out
+          ticket-within = behind-within (ticketLines 1 (take i tickets)) (ticketLine (i + 1) t) out mid at more-room so-far r part w

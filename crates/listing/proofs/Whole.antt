@@ -1,7 +1,7 @@
 -- A listing from its parts: the head's line, the tickets' lines and the line of totals, each behind the one before.
-use mathlib.Core.Path.{_≡_, ap, ap₂}
+use mathlib.Core.Path.{_≡_, sym, ap, ap₂, _∙_}
 use mathlib.Core.List.{List, _++_}
-use Prim.Native.Nat.{ℕ, _/_, _≤_}
+use Prim.Native.Nat.{ℕ, _+_, _/_, _≤_}
 use native.Mathlib.Omega.{arith}
 use lib.ListN.{length, length-append}
 use Rattle.acorn_model.specs.Calls.{done}
@@ -12,7 +12,7 @@ use Rattle.tape_model.specs.Listing.{headLine, totalsLine, totalLine, listed}
 use Rattle.listing.specs.Contracts.{PlainTickets, unpacked, linesOf}
 use Rattle.tape_model.proofs.Unpacking.{unpacked-count, told}
 
-module _ (head : Head) (plain out : List ℕ) (net : ℕ) (p : PlainTickets plain net) (room : length (listed (done head) (ticketsIn (unpacked plain))) ≤ length out) where
+module _ (head : Head) (plain : List ℕ) (net : ℕ) (p : PlainTickets plain net) where
   abbrev tickets : List Ticket
   tickets = ticketsIn (unpacked plain)
 
@@ -24,11 +24,17 @@ module _ (head : Head) (plain out : List ℕ) (net : ℕ) (p : PlainTickets plai
   unfolding listed linesOf totalLine
   whole = ap₂ (λ (k n : ℕ). headLine head ++ linesOf plain ++ totalsLine k n) count (p .net-is)
 
-  pub whole-room : length (headLine head ++ linesOf plain ++ totalsLine (length plain / 13) net) ≤ length out
-  whole-room = omega (arith, ap length whole)
+  pub whole-length : length (listed (done head) tickets) ≡ length (headLine head) + length (linesOf plain) + length (totalsLine (length plain / 13) net)
+  whole-length =
+      ap length (sym whole) ∙ length-append (headLine head ++ linesOf plain) (totalsLine (length plain / 13) net)
+      ∙ ap (λ (k : ℕ). k + length (totalsLine (length plain / 13) net)) (length-append (headLine head) (linesOf plain))
 
-  pub lines-room : length (headLine head ++ linesOf plain) ≤ length out
-  lines-room = omega (arith, whole-room, length-append (headLine head ++ linesOf plain) (totalsLine (length plain / 13) net))
+  module _ (out : List ℕ) (room : length (listed (done head) tickets) ≤ length out) where
+    pub whole-room : length (headLine head ++ linesOf plain ++ totalsLine (length plain / 13) net) ≤ length out
+    whole-room = omega (arith, ap length whole)
 
-  pub head-room : length (headLine head) ≤ length out
-  head-room = omega (arith, lines-room, length-append (headLine head) (linesOf plain))
+    pub lines-room : length (headLine head ++ linesOf plain) ≤ length out
+    lines-room = omega (arith, whole-length, length-append (headLine head) (linesOf plain))
+
+    pub head-room : length (headLine head) ≤ length out
+    head-room = omega (arith, whole-length)

@@ -1,13 +1,16 @@
 // The listing of a tape, as a text in ASCII: a line for its head, a line a ticket, and a line of totals; or the line of a refusal alone.
+mod lengths;
 mod lines;
 mod text;
 
 use acorn_model::Written;
+use lengths::listed_length;
+use lengths::refused_line_length;
 use lines::put_head_line;
 use lines::put_refused_line;
 use lines::put_ticket_lines;
 use lines::put_total_line;
-use tape::open_tape;
+use tape::open_scratch;
 use tape_model::Head;
 use tape_model::OpenedTape;
 use tape_model::UnpackedHead;
@@ -48,40 +51,65 @@ fn put_listed(head: Head, plain: &[u8], net: u64, out: &mut [u8]) -> usize
     at + c
 }
 
+// The line of a refusal alone: 6 where the output is too short for it.
+fn list_refused(number: u8, out: &mut [u8]) -> Written
+    ensures { λ r. ⌜ Listed (model.refusedLine number) (now (out .entry)) r (now (out .exit)) ⌝ }
+{
+    let n = refused_line_length(number);
+    if out.len() < n {
+        return Written::Refused(6);
+    }
+    Written::Done(put_refused_line(number, out))
+}
+
+// The listing of a tape with this head that opened to these bytes: 6 where the output is too short for it.
+fn list_tickets(head: Head, plain: &[u8], net: u64, out: &mut [u8]) -> Written
+    requires { ⌜ PlainTickets (now plain) net ⌝ }
+    ensures { λ r. ⌜ Listed (model.listed (done head) (ticketsIn (unpacked (now (plain .entry))))) (now (out .entry)) r (now (out .exit)) ⌝ }
+{
+    let n = listed_length(head, plain, net);
+    if out.len() < n {
+        return Written::Refused(6);
+    }
+    Written::Done(put_listed(head, plain, net, out))
+}
+
 // The same, by what the head's bytes unpacked to.
-fn put_opened(head: UnpackedHead, plain: &[u8], net: u64, out: &mut [u8]) -> usize
-    requires { ⌜ PlainTickets (now plain) net × (length (model.listed (headReply head) (ticketsIn (unpacked (now plain)))) ≤ length (now out)) ⌝ }
-    ensures { λ r. ⌜ Wrote (model.listed (headReply head) (ticketsIn (unpacked (now (plain .entry))))) (now (out .entry)) r (now (out .exit)) ⌝ }
+fn list_opened(head: UnpackedHead, plain: &[u8], net: u64, out: &mut [u8]) -> Written
+    requires { ⌜ PlainTickets (now plain) net ⌝ }
+    ensures { λ r. ⌜ Listed (model.listed (headReply head) (ticketsIn (unpacked (now (plain .entry))))) (now (out .entry)) r (now (out .exit)) ⌝ }
 {
     match head {
-        UnpackedHead::Refused(number) => put_refused_line(number, out),
-        UnpackedHead::Done(h) => put_listed(h, plain, net, out),
+        UnpackedHead::Refused(number) => list_refused(number, out),
+        UnpackedHead::Done(h) => list_tickets(h, plain, net, out),
     }
 }
 
 // The listing of a tape, whose tickets are opened into plain.
-fn put_text(key: &[u8], tape: &[u8], plain: &mut [u8], out: &mut [u8]) -> usize
-    requires { ⌜ (longestPlain ≤ length (now plain)) × (textRoom ≤ length (now out)) ⌝ }
-    ensures { λ r. ⌜ Wrote (model.listing (now (key .entry)) (now (tape .entry))) (now (out .entry)) r (now (out .exit)) ⌝ }
+fn list_by(key: &[u8], tape: &[u8], plain: &mut [u8], out: &mut [u8]) -> Written
+    requires { ⌜ longestPlain ≤ length (now plain) ⌝ }
+    ensures { λ r. ⌜ Listed (model.listing (now (key .entry)) (now (tape .entry))) (now (out .entry)) r (now (out .exit)) ⌝ }
 {
-    match open_tape(key, tape, plain) {
-        OpenedTape::Refused(number) => put_refused_line(number, out),
+    match open_scratch(key, tape, plain) {
+        OpenedTape::Refused(number) => list_refused(number, out),
         OpenedTape::Done(tickets, net) => {
             let n = 13 * tickets;
             let head = ticket::unpack_head(&tape[..9]);
-            put_opened(head, &plain[..n], net, out)
+            list_opened(head, &plain[..n], net, out)
         }
     }
 }
 
-// Writes the listing of a tape: 6 where the output is too short for it, and nothing is written.
+// Writes the listing of a tape: 6 where the output is too short for it; nothing is written then, and nothing of the tickets kept.
 pub fn list_tape(key: &[u8], tape: &[u8], out: &mut [u8]) -> Written
     ensures { λ r. ⌜ Listed (model.listing (now (key .entry)) (now (tape .entry))) (now (out .entry)) r (now (out .exit)) ⌝ }
 {
     let mut plain = plain_buffer();
-    let mut text = text_buffer();
-    let n = put_text(key, tape, &mut plain, &mut text);
-    ticket::put(&text[..n], out)
+    let written = list_by(key, tape, &mut plain, out);
+    if let Written::Refused(_) = written {
+        zeroize::zeroize(&mut plain);
+    }
+    written
 }
 
 // Where the key of an input ends: after 16 bytes, or after all where there are fewer.

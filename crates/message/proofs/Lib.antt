@@ -1,3 +1,4 @@
 -- The laws that the proofs of the functions cite.
 pub mod Sealing
+pub mod Rest
 pub mod Opening

@@ -1,22 +1,19 @@
--- Opening from its parts: the number that the sizes give, the text run into the scratch, the tag compared, and the text copied.
+-- Opening from its parts: the number that the sizes give, and what opening the rest comes to where it is all of the message.
 use mathlib.Core.Path.{_≡_, sym, ap, ap₂, _∙_}
 use mathlib.Core.Bool.{Bool, true, false, not}
-use mathlib.Core.List.{List, _++_}
-use Prim.Native.Nat.{ℕ, _+_, _-_, _≤_}
+use mathlib.Core.List.{List}
+use Prim.Native.Nat.{ℕ, _-_}
 use native.Mathlib.Omega.{arith}
-use lib.Dec.{ltb}
-use lib.ListN.{length, take, drop, length-drop}
-use lib.Seq.{take-at, take-all, take-length, length-take-le}
-use borrow.Author.Tests.{le-ltb}
+use lib.ListN.{length}
 use Rattle.acorn_model.specs.Bits.{Bits, _if_else_}
-use Rattle.acorn_model.specs.Stretches.{tagLength, through, textPiece, textEnd, textOut, tagOf, afterData}
+use Rattle.acorn_model.specs.Stretches.{tagLength, textOut, tagOf, afterData, beforeFinal}
+use Rattle.acorn_model.specs.Paper.{decrypted}
 use Rattle.acorn_model.specs.Calls.{refused, done, unlessRefused, writtenOver, sameBytes}
 use Rattle.acorn_model.specs.Message.{resultOf, cipherPart, tagPart, tagMatches, opened, tagRefusal, openRefusal, openMessage}
 use Rattle.acorn_model.proofs.Refusals.{refused-if}
 use Rattle.acorn_model.proofs.Agree.{decrypted-agrees, newTag-agrees}
-use Rattle.acorn_model.proofs.Outputs.{decrypted-length}
 use Rattle.acorn_model.proofs.Messages.{Openable, open-told, opened-length, result-written, result-refused}
-use Rattle.acorn.specs.Runs.{TextRun}
+use Rattle.message.specs.Contracts.{restMatches, restOpened}
 
 7-or-none : (matches : Bool) (n : ℕ) → (n ≡ 0 → ⊥) → (n ≡ 7 → ⊥) → (7 if not matches else 0) ≡ n → ⊥
 7-or-none true n h0 h7 e = h0 (sym e)
@@ -45,40 +42,24 @@ module _ (key nonce «data» s out : List ℕ) where
         open-told key nonce «data» s out (tagRefusal key nonce «data» s)
         (not-by-tag 2 (omega arith) (omega arith)) (not-by-tag 5 (omega arith) (omega arith)) (not-by-tag 6 (omega arith) (omega arith)) only-tag .0
 
-    pub cipher-length : length (cipherPart s) ≡ length s - tagLength
-    cipher-length = length-take-le (length s - tagLength) s (omega arith)
-
-    module _ (scratch scratch′ t : List ℕ) (S S₁ S₂ : Bits) (same : Bool) (room : length s ≤ length scratch + tagLength) (S-is : S ≡ afterData key nonce «data»)
-        (run : TextRun true S (cipherPart s) scratch S₁ scratch′) (S₂-is : S₂ ≡ through textEnd S₁) (t-is : t ≡ tagOf S₂)
-        (same-is : same ≡ sameBytes (take (length s - (length s - tagLength)) (tagPart s)) t) where
-      fits : ltb (length scratch) (length (cipherPart s)) ≡ false
-      fits = le-ltb (length scratch) (length (cipherPart s)) (omega (arith, cipher-length))
-
+    -- what opening the rest of the message came to, where the rest is all of it
+    module _ (S : Bits) (same : Bool) (out′ : List ℕ) (S-is : S ≡ afterData key nonce «data») (same-is : same ≡ restMatches S s) (out-is : out′ ≡ restOpened S s out) where
       verdict : same ≡ tagMatches key nonce «data» s
-      unfolding tagMatches
-      verdict =
-          same-is
-          ∙ ap (λ (l : List ℕ). sameBytes l t) (take-all (length s - (length s - tagLength)) (tagPart s) (omega (arith, length-drop (length s - tagLength) s)))
-          ∙ ap (sameBytes (tagPart s)) (t-is ∙ ap tagOf (S₂-is ∙ ap (through textEnd) ((rw fits at (run .state)) ∙ ap (through (textPiece true (cipherPart s))) S-is)) ∙ newTag-agrees key nonce «data» (cipherPart s))
+      unfolding tagMatches restMatches
+      verdict = same-is ∙ ap (sameBytes (tagPart s)) (ap (λ (R : Bits). tagOf (beforeFinal true (cipherPart s) R)) S-is ∙ newTag-agrees key nonce «data» (cipherPart s))
 
-      text : take (length s - tagLength) scratch′ ≡ opened key nonce «data» s
-      unfolding opened writtenOver
-      text =
-          ap (take (length s - tagLength)) ((rw fits at (run .output))
-          ∙ ap (λ (l : List ℕ). l ++ drop (length l) scratch) (ap (textOut true (cipherPart s)) S-is ∙ decrypted-agrees key nonce «data» (cipherPart s)))
-          ∙ take-at _ _ (length s - tagLength) (decrypted-length key nonce «data» (cipherPart s) ∙ cipher-length)
-
-      pub opened-by-parts : (piece out′ : List ℕ) → piece ≡ take (length s - tagLength) scratch′ → same ≡ true → out′ ≡ take (length piece) piece ++ drop (length piece) out
-          → openMessage key nonce «data» s out ≡ record { answer = done (length s - tagLength); out = out′ }
-      unfolding openMessage writtenOver
-      opened-by-parts piece out′ piece-is matches copied =
+      pub opened-by-rest : same ≡ true → openMessage key nonce «data» s out ≡ record { answer = done (length s - tagLength); out = out′ }
+      unfolding openMessage opened restOpened
+      opened-by-rest matches =
           let number : openRefusal key nonce «data» s out ≡ 0 = only-tag ∙ (rw (← verdict, matches)) in
+          let text : textOut true (cipherPart s) S ≡ decrypted key nonce «data» (cipherPart s) = ap (textOut true (cipherPart s)) S-is ∙ decrypted-agrees key nonce «data» (cipherPart s) in
           result-written _ _ _ out number
           ∙ ap₂ (λ (n : ℕ) (o : List ℕ). record { answer = done n; out = o }) (opened-length key nonce «data» s)
-          (sym (copied ∙ ap (λ (l : List ℕ). l ++ drop (length piece) out) (take-length piece) ∙ ap (λ (l : List ℕ). writtenOver l out) (piece-is ∙ text)))
+          (sym (out-is ∙ (rw (← same-is, matches)) ∙ ap (λ (l : List ℕ). writtenOver l out) text))
 
-      pub refused-by-tag : same ≡ false → openMessage key nonce «data» s out ≡ record { answer = refused 7; out = out }
-      unfolding openMessage resultOf unlessRefused
+      pub refused-by-tag : same ≡ false → openMessage key nonce «data» s out ≡ record { answer = refused 7; out = out′ }
+      unfolding openMessage resultOf unlessRefused restOpened
       refused-by-tag differs =
           let number : openRefusal key nonce «data» s out ≡ 7 = only-tag ∙ (rw (← verdict, differs)) in
-          rw number
+          let kept : out ≡ out′ = sym (out-is ∙ (rw (← same-is, differs))) in
+          (rw number) ∙ ap (λ (o : List ℕ). record { answer = refused 7; out = o }) kept

@@ -9,14 +9,17 @@ use acorn::start;
 use acorn::write_tag;
 use acorn_model::Written;
 use compare::same_bytes;
+use zeroize::zeroize;
 ghost use mathlib.Core.Path.{_≡_};
-ghost use Prim.Native.Nat.{_+_, _≤_};
-ghost use lib.ListN.{length};
-ghost use Rattle.acorn_model.specs.Stretches.{tagLength, afterData};
-ghost use Rattle.acorn_model.specs.Calls.{writtenReply, unlessRefused, sameBytes};
+ghost use Prim.Native.Nat.{_+_, _≤_, _<_};
+ghost use lib.ListN.{length, take, replicate};
+ghost use Rattle.acorn_model.specs.Bits.{_if_else_};
+ghost use Rattle.acorn_model.specs.Stretches.{through, textEnd, tagLength, tagOf, afterData};
+ghost use Rattle.acorn_model.specs.Calls.{writtenReply, unlessRefused, writtenOver, sameBytes};
 ghost use Rattle.acorn_model.specs.Machine.{keyAndNonceRight};
 ghost use Rattle.acorn_model.specs.Message.{sealRefusal, sealMessage, tagRefusal, openRefusal, openMessage};
 ghost use Rattle.acorn_kernel.specs.Together.{stateOf};
+ghost use Rattle.message.specs.Contracts.{restMatches, restOpened};
 
 fn sizes_right(key: &[u8], nonce: &[u8]) -> bool
     ensures { λ r. ⌜ r ≡ keyAndNonceRight (now (key .entry)) (now (nonce .entry)) ⌝ }
@@ -81,37 +84,69 @@ pub fn seal(key: &[u8], nonce: &[u8], data: &[u8], text: &[u8], out: &mut [u8]) 
     Written::Done(written)
 }
 
-// Whether a tag is the one given. All its bytes are compared, wherever the first differs.
-fn same_tag(tag: [u8; 16], given: &[u8]) -> bool
-    ensures { λ r. ⌜ r ≡ sameBytes (now (given .entry)) tag ⌝ }
+// Whether the tag is the one that follows from the state after the text. All its bytes are compared, wherever the first differs.
+fn tag_is(s: State, tag: &[u8]) -> bool
+    ensures { λ r. ⌜ r ≡ sameBytes (now (tag .entry)) (tagOf (through textEnd (stateOf s))) ⌝ }
 {
-    same_bytes(given, &tag)
+    let expected = acorn::tag(end_text(s));
+    same_bytes(tag, &expected)
 }
 
-// The opening of a message that only a differing tag can send back. Its text is decrypted into the scratch.
-fn open_by(
-    scratch: &mut [u8],
-    key: &[u8],
-    nonce: &[u8],
-    data: &[u8],
-    sealed: &[u8],
-    out: &mut [u8],
-) -> Written
-    requires { ⌜ (length (now sealed) ≤ length (now scratch) + tagLength) × (openRefusal (now key) (now nonce) (now «data») (now sealed) (now out) ≡ tagRefusal (now key) (now nonce) (now «data») (now sealed)) ⌝ }
-    ensures { λ r. ⌜ openMessage (now (key .entry)) (now (nonce .entry)) (now («data» .entry)) (now (sealed .entry)) (now (out .entry)) ≡ record { answer = writtenReply r; out = now (out .exit) } ⌝ }
+// The bytes of a piece, where so many of the text are left.
+fn piece_length(left: usize) -> usize
+    ensures { λ r. ⌜ (r ≤ left) × (r ≤ 2048) × (r < left → r ≡ 2048) ⌝ }
 {
-    let n = sealed.len() - 16;
-    let s = decrypt(after_data(key, nonce, data), &sealed[..n], scratch);
-    if same_tag(acorn::tag(end_text(s)), &sealed[n..]) {
+    if left < 2048 { left } else { 2048 }
+}
+
+// A decrypted piece, at the start of the scratch: it is copied to the output, or the scratch is cleared.
+fn hand_over(good: bool, scratch: &mut [u8], n: usize, out: &mut [u8])
+    requires { ⌜ (n ≤ length (now scratch)) × (n ≤ length (now out)) ⌝ }
+    ensures { λ _. ⌜ now (out .exit) ≡ (writtenOver (take n (now (scratch .entry))) (now (out .entry)) if good else now (out .entry)) ⌝ }
+    ensures { λ _. ⌜ now (scratch .exit) ≡ (now (scratch .entry) if good else replicate (length (now (scratch .entry))) 0) ⌝ }
+{
+    if good {
         bytes::copy(&scratch[..n], out);
-        Written::Done(n)
     } else {
-        Written::Refused(7)
+        zeroize(scratch);
     }
 }
 
+// Opens the rest of a message, in the state before it: decrypts a piece of its text into a scratch, and calls itself for what is behind. The
+// call for the last piece compares the tags, and then each call hands over its piece. So an opening takes of the stack what the length of its
+// text needs.
+fn open_rest(s: State, sealed: &[u8], out: &mut [u8]) -> bool
+    requires { ⌜ (tagLength ≤ length (now sealed)) × (length (now sealed) ≤ length (now out) + tagLength) ⌝ }
+    ensures { λ r. ⌜ r ≡ restMatches (stateOf s) (now (sealed .entry)) ⌝ }
+    ensures { λ _. ⌜ now (out .exit) ≡ restOpened (stateOf s) (now (sealed .entry)) (now (out .entry)) ⌝ }
+{
+    let left = sealed.len() - 16;
+    let n = piece_length(left);
+    let mut scratch = [0; 2048];
+    let next = decrypt(s, &sealed[..n], &mut scratch);
+    let good = if n < left {
+        open_rest(next, &sealed[n..], &mut out[n..])
+    } else {
+        tag_is(next, &sealed[n..])
+    };
+    hand_over(good, &mut scratch, n, out);
+    good
+}
+
+// The same of all sealed bytes. Where there is no text, no scratch is needed.
+fn open_all(s: State, sealed: &[u8], out: &mut [u8]) -> bool
+    requires { ⌜ (tagLength ≤ length (now sealed)) × (length (now sealed) ≤ length (now out) + tagLength) ⌝ }
+    ensures { λ r. ⌜ r ≡ restMatches (stateOf s) (now (sealed .entry)) ⌝ }
+    ensures { λ _. ⌜ now (out .exit) ≡ restOpened (stateOf s) (now (sealed .entry)) (now (out .entry)) ⌝ }
+{
+    if sealed.len() == 16 {
+        return tag_is(s, sealed);
+    }
+    open_rest(s, sealed, out)
+}
+
 // Writes the text that ciphertext and tag open to. 2: key or nonce not of 16 bytes, or fewer sealed bytes than 16; 5: data or text over 65,536
-// bytes; 6: an output without room for the text; 7: a tag that differs. The scratch is cleared first, so a short message gets a short one.
+// bytes; 6: an output without room for the text; 7: a tag that differs.
 pub fn open(key: &[u8], nonce: &[u8], data: &[u8], sealed: &[u8], out: &mut [u8]) -> Written
     ensures { λ r. ⌜ openMessage (now (key .entry)) (now (nonce .entry)) (now («data» .entry)) (now (sealed .entry)) (now (out .entry)) ≡ record { answer = writtenReply r; out = now (out .exit) } ⌝ }
 {
@@ -119,14 +154,10 @@ pub fn open(key: &[u8], nonce: &[u8], data: &[u8], sealed: &[u8], out: &mut [u8]
     if number != 0 {
         return Written::Refused(number);
     }
-    if sealed.len() <= 512 + 16 {
-        let mut scratch = [0; 512];
-        return open_by(&mut scratch, key, nonce, data, sealed, out);
+    if open_all(after_data(key, nonce, data), sealed, out) {
+        let n = sealed.len() - 16;
+        Written::Done(n)
+    } else {
+        Written::Refused(7)
     }
-    if sealed.len() <= 8192 + 16 {
-        let mut scratch = [0; 8192];
-        return open_by(&mut scratch, key, nonce, data, sealed, out);
-    }
-    let mut scratch = [0; 65536];
-    open_by(&mut scratch, key, nonce, data, sealed, out)
 }

@@ -22,6 +22,7 @@ use refusal::is_checking;
 use refusal::is_data;
 use refusal::is_fresh;
 use refusal::is_sealing;
+use refusal::is_text;
 use refusal::over_limit;
 use refusal::takes_text;
 use std::num::wrapping_add_u64;
@@ -60,6 +61,14 @@ impl Session {
             kind,
             phase: Phase::Fresh,
         }
+    }
+
+    // Whether text has begun, and has not ended.
+    pub fn in_text(self) -> bool
+        ensures { λ r. ⌜ r ≡ machine.isText (machineOf self .phase) ⌝ }
+    {
+        let phase = self.phase;
+        is_text(phase)
     }
 
     // A call is sent back, or its tag was wrong.
@@ -171,6 +180,31 @@ impl Session {
         let held = self.state;
         let sealed = acorn::seal_text(data_ended(phase, held), piece, out);
         let next = self.text_taken(piece, sealed);
+        next.done(piece.len())
+    }
+
+    // The same, by the run that is made for pieces of 13 bytes. It repeats the tests: shared ones are not compiled into the one caller.
+    pub fn seal_13(self, piece: &[u8], out: &mut [u8]) -> Reply
+        ensures { λ r. ⌜ Called self (machine.sealText (now (piece .entry)) (now (out .entry))) r (now (out .exit)) ⌝ }
+    {
+        let kind = self.kind;
+        let phase = self.phase;
+        let taken = self.text_bytes;
+        let allowed = is_sealing(kind) & takes_text(phase);
+        let over = over_limit(taken, piece.len());
+        let short = out.len() < piece.len();
+        if !allowed {
+            return self.refused(1);
+        }
+        if over {
+            return self.refused(5);
+        }
+        if short {
+            return self.refused(6);
+        }
+        let held = self.state;
+        let state = acorn::seal_13(data_ended(phase, held), piece, out);
+        let next = self.text_taken(piece, state);
         next.done(piece.len())
     }
 

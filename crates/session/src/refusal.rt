@@ -48,6 +48,17 @@ pub(crate) fn is_data(phase: Phase) -> bool
     }
 }
 
+pub(crate) fn is_text(phase: Phase) -> bool
+    ensures { λ r. ⌜ r ≡ isText phase ⌝ }
+{
+    match phase {
+        Phase::Fresh => false,
+        Phase::Data => false,
+        Phase::Text => true,
+        Phase::Closed => false,
+    }
+}
+
 // Text and close are for data and text.
 pub(crate) fn takes_text(phase: Phase) -> bool
     ensures { λ r. ⌜ r ≡ (isData phase || isText phase) ⌝ }

@@ -1,18 +1,17 @@
 -- Sealed bytes run into a scratch: the text and the tag that the paper gives.
 use mathlib.Core.Path.{_≡_, ap, _∙_}
 use mathlib.Core.Bool.{Bool, true}
-use mathlib.Core.List.{List, _++_}
+use mathlib.Core.List.{List}
 use Prim.Native.Nat.{ℕ, _+_, _-_, _≤_}
 use native.Mathlib.Omega.{arith}
-use lib.ListN.{length, take, drop, replicate, length-drop, length-append}
-use lib.Seq.{take-at, take-all, length-take-le}
+use lib.ListN.{length, take, replicate, length-drop, length-append}
+use lib.Seq.{take-all, length-take-le}
 use Rattle.acorn_model.specs.Bits.{Bits}
 use Rattle.acorn_model.specs.Stretches.{tagLength, through, textPiece, textEnd, textOut, tagOf, afterData}
 use Rattle.acorn_model.specs.Calls.{writtenOver, sameBytes}
 use Rattle.acorn_model.specs.Machine.{nonceLength}
 use Rattle.acorn_model.specs.Message.{cipherPart, tagPart, tagMatches, opened}
 use Rattle.acorn_model.proofs.Agree.{decrypted-agrees, newTag-agrees}
-use Rattle.acorn_model.proofs.Outputs.{decrypted-length}
 use Rattle.acorn.specs.Runs.{TextRun}
 use Rattle.acorn.proofs.Callers.{text-state, text-output}
 use Rattle.tape_model.specs.Ticket.{headLength}
@@ -39,9 +38,8 @@ module _ (key nonce «data» s scratch scratch′ : List ℕ) (S S₁ : Bits) (r
       (t-is ∙ ap tagOf (S₂-is ∙ ap (through textEnd) (text-state true S (cipherPart s) scratch S₁ scratch′ fits run ∙ ap (through (textPiece true (cipherPart s))) S-is))
       ∙ newTag-agrees key nonce «data» (cipherPart s))
 
-  pub text-decrypted : take (length s - tagLength) scratch′ ≡ opened key nonce «data» s
-  unfolding opened writtenOver
+  pub text-decrypted : scratch′ ≡ writtenOver (opened key nonce «data» s) scratch
+  unfolding opened
   text-decrypted =
-      ap (take (length s - tagLength)) (text-output true S (cipherPart s) scratch S₁ scratch′ fits run
-      ∙ ap (λ (l : List ℕ). l ++ drop (length l) scratch) (ap (textOut true (cipherPart s)) S-is ∙ decrypted-agrees key nonce «data» (cipherPart s)))
-      ∙ take-at _ _ (length s - tagLength) (decrypted-length key nonce «data» (cipherPart s) ∙ cipher-length)
+      text-output true S (cipherPart s) scratch S₁ scratch′ fits run
+      ∙ ap (λ (l : List ℕ). writtenOver l scratch) (ap (textOut true (cipherPart s)) S-is ∙ decrypted-agrees key nonce «data» (cipherPart s))

@@ -4,4 +4,5 @@ pub mod WriterCalls
 pub mod Sizes
 pub mod Decrypting
 pub mod OpenedParts
+pub mod ByScratch
 pub mod WriterBack

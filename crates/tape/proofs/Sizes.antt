@@ -1,21 +1,21 @@
--- The numbers that a tape's sizes and head give, and what the sizes are where none of them applies.
+-- The numbers that a tape's sizes and head give, what an opening comes to by them, and what the sizes are where none of them applies.
 use mathlib.Core.Path.{_≡_, refl, sym, ap, _∙_}
-use mathlib.Core.Bool.{Bool, true, false, not, _&&_}
+use mathlib.Core.Bool.{Bool, true, false, not, _&&_, _||_}
 use mathlib.Core.List.{List}
-use Prim.Native.Nat.{ℕ, zero, suc, _-_, _*_, _≤_}
+use Prim.Native.Nat.{ℕ, zero, suc, _+_, _-_, _*_, _≤_}
 use native.Mathlib.Omega.{arith}
 use lib.Dec.{eqb, ltb}
-use lib.ListN.{length}
-use borrow.Author.Tests.{ltb-false}
+use lib.ListN.{length, replicate}
+use borrow.Author.Tests.{ltb-false, ne-eqb}
 use Rattle.acorn_model.specs.Bits.{_if_else_}
 use Rattle.acorn_model.specs.Calls.{refused, unlessRefused}
 use Rattle.acorn_model.specs.Machine.{keyLength}
 use Rattle.acorn_model.specs.Message.{resultOf, tagMatches}
 use Rattle.acorn_model.proofs.Refusals.{refused-if}
 use Rattle.tape_model.specs.Ticket.{ticketLength, unpackHead}
-use Rattle.tape_model.specs.Tape.{nonceOf, unpackTickets, isRefused, emptyTapeLength, tapeLength, headBytes, sealedBytes, ticketCount, plainBytes, openRefusal, openTape}
+use Rattle.tape_model.specs.Tape.{ticketLimit, nonceOf, unpackTickets, isRefused, emptyTapeLength, tapeLength, headBytes, sealedBytes, ticketCount, plainBytes, openRefusal, openTape}
 use Rattle.tape_model.proofs.Opening.{TapeSize, sizes-told, text-length}
-use Rattle.tape.specs.Contracts.{textRefusal}
+use Rattle.tape.specs.Contracts.{textRefusal, scratchAfter, openScratch}
 
 -- ## The numbers
 
@@ -41,6 +41,12 @@ module _ (key tape out : List ℕ) where
   unfolding openTape resultOf unlessRefused
   refused-with n e = rw e
 
+  -- the same into a scratch: it is all zeros where the number is 7 or 8
+  pub refused-into : (n : ℕ) (cleared : Bool) → (eqb (suc n) 7 || eqb (suc n) 8) ≡ cleared → openRefusal key tape out ≡ suc n
+      → openScratch key tape out ≡ record { answer = refused (suc n); out = replicate (length out) 0 if cleared else out }
+  unfolding openScratch scratchAfter openTape resultOf unlessRefused
+  refused-into n cleared h e = rw (e, ne-eqb (suc n) 0 (λ w. omega arith), h)
+
   module _ (n : ℕ) (number : openRefusal key tape out ≡ unlessRefused n (textRefusal key tape) n) where
     pub sent-back : (n ≡ 0 → ⊥) → openTape key tape out ≡ record { answer = refused n; out = out }
     sent-back h = by n (number ∙ refused-if n (textRefusal key tape) n h) h
@@ -48,6 +54,13 @@ module _ (key tape out : List ℕ) where
         by : (m : ℕ) → openRefusal key tape out ≡ m → (m ≡ 0 → ⊥) → openTape key tape out ≡ record { answer = refused m; out = out }
         by zero e z = absurd (z refl)
         by (suc m) e z = refused-with m e
+
+    pub sent-back-at-once : (n ≡ 0 → ⊥) → n ≤ 6 → openScratch key tape out ≡ record { answer = refused n; out = out }
+    sent-back-at-once h small = by n (number ∙ refused-if n (textRefusal key tape) n h) h small
+      where
+        by : (m : ℕ) → openRefusal key tape out ≡ m → (m ≡ 0 → ⊥) → m ≤ 6 → openScratch key tape out ≡ record { answer = refused m; out = out }
+        by zero e z l = absurd (z refl)
+        by (suc m) e z l = refused-into m false (rw (ne-eqb (suc m) 7 (λ w. omega arith), ne-eqb (suc m) 8 (λ w. omega arith))) e
 
     pub let-through : n ≡ 0 → openRefusal key tape out ≡ textRefusal key tape
     unfolding unlessRefused
@@ -63,3 +76,6 @@ module _ (key tape out : List ℕ) where
       (not-number 2 (omega arith) (omega arith) (omega arith)) (not-number 3 (omega arith) (omega arith) (omega arith)) (not-number 6 (omega arith) (omega arith) (omega arith)) e in
       let sizes = sizes-told key (length tape) (tapeLength (length tape)) refl (p .0) in
       record { key-size = sizes .0; tape-size = sizes .1; room = omega (arith, text-length (length tape) (sizes .1), ltb-false (length out) (ticketLength * ticketCount tape) (p .1)) }
+
+  pub text-limit : openRefusal key tape out ≡ textRefusal key tape → length tape ≤ ticketLength * ticketLimit + emptyTapeLength
+  text-limit e = let size = openable e .tape-size in omega (arith, size .few, text-length (length tape) size)

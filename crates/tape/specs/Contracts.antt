@@ -1,14 +1,17 @@
--- How a writer is held against document 01's plain writer: the one equation that every method's contract is.
+-- How a writer is held against document 01's plain writer: the one equation that every method's contract is. And what an
+-- opening into a scratch comes to.
 use mathlib.Core.Path.{_≡_}
-use mathlib.Core.Bool.{Bool, not}
+use mathlib.Core.Bool.{Bool, not, _||_}
 use mathlib.Core.List.{List}
 use Prim.Native.Nat.{ℕ}
+use lib.Dec.{eqb}
+use lib.ListN.{length, replicate}
 use Rattle.acorn_model.specs.declared.Answer.the-variants.{Refused}
 use Rattle.acorn_model.specs.Bits.{_if_else_}
-use Rattle.acorn_model.specs.Calls.{Reply, refused, done, Work, accepted, Outcome, answerReply}
+use Rattle.acorn_model.specs.Calls.{Reply, refused, done, Work, accepted, Outcome, answerReply, writtenOver}
 use Rattle.acorn_model.specs.Machine.{Machine, begin, dataCall, call}
-use Rattle.acorn_model.specs.Message.{tagMatches}
-use Rattle.tape_model.specs.Tape.{nonceOf, unpackTickets, isRefused, headBytes, sealedBytes, ticketCount, plainBytes}
+use Rattle.acorn_model.specs.Message.{Result, tagMatches}
+use Rattle.tape_model.specs.Tape.{nonceOf, unpackTickets, isRefused, Totals, headBytes, sealedBytes, ticketCount, plainBytes, openRefusal, openTape}
 use Rattle.tape_model.specs.Writer.{PlainWriter, WriterCall, phaseAllows, keyRight, headRight, ticketRight, tapeFull, outputShort, refusal, writerCall}
 use Rattle.session.specs.Contracts.{machineOf, wrappedMachine, wrappedReply}
 use Rattle.tape.specs.declared.Writer.{Writer}
@@ -64,3 +67,17 @@ textRefusal key tape =
     7 if not (tagMatches key (nonceOf (headBytes tape)) (headBytes tape) (sealedBytes tape)) else
     8 if isRefused (unpackTickets (ticketCount tape) (plainBytes key tape)) else
     accepted
+
+-- ## Opening into a scratch
+
+-- what stands in the scratch after an opening with this number: the text at its front where none applies, zeros all through where the tag or a
+-- ticket sends the tape back (7, 8), and what stood there for every other number
+unfoldable pub scratchAfter : ℕ → List ℕ → List ℕ → List ℕ
+scratchAfter number text scratch =
+    writtenOver text scratch if eqb number accepted else
+    replicate (length scratch) 0 if eqb number 7 || eqb number 8 else
+    scratch
+
+-- what an opening into a scratch comes to: its answer is that of `openTape` with the scratch as output
+unfoldable pub openScratch : List ℕ → List ℕ → List ℕ → Result Totals
+openScratch key tape scratch = record { answer = openTape key tape scratch .answer; out = scratchAfter (openRefusal key tape scratch) (plainBytes key tape) scratch }

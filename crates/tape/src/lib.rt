@@ -3,17 +3,20 @@
 // changes nothing.
 mod opening;
 mod refusal;
+mod sized;
 mod words;
 
 use acorn_model::Answer;
 use acorn_model::Kind;
 use opening::open_by;
 use opening::open_refusal;
+use opening::open_text;
 use refusal::is_fresh;
 use refusal::is_open;
 use refusal::number;
 use session::Reply;
 use session::Session;
+use sized::open_long;
 use tape_model::Head;
 use tape_model::OpenedTape;
 use tape_model::Ticket;
@@ -22,11 +25,12 @@ ghost use mathlib.Core.Path.{_≡_};
 ghost use mathlib.Core.List.{[]};
 ghost use lib.ListN.{length, replicate};
 ghost use Rattle.acorn_model.specs.Bits.{_if_else_};
+ghost use Rattle.acorn_model.specs.Machine.{isText};
 ghost use Rattle.tape_model.specs.Ticket.{headLength, headRule, packHead};
 ghost use Rattle.tape_model.specs.Tape.{nonceOf, openTape, openedReply};
 ghost use Rattle.tape_model.specs.Writer as plain;
 ghost use Rattle.session.specs.Contracts.{machineOf, outcomeOf, wrappedOutcome};
-ghost use Rattle.tape.specs.Contracts.{writerOf, WriterCalled, refusedReply, headTaken};
+ghost use Rattle.tape.specs.Contracts.{writerOf, WriterCalled, refusedReply, headTaken, openScratch};
 
 pub struct Writer {
     session: Session,
@@ -129,31 +133,35 @@ impl Writer {
         }
     }
 
+    // Whether the tape has text, so that its data is ended.
+    pub fn in_text(self) -> bool
+        ensures { λ r. ⌜ r ≡ isText (writerOf self .machine .phase) ⌝ }
+    {
+        let session = self.session;
+        session.in_text()
+    }
+
     // Adds a ticket to the tape. The tests stand one after the other, so that a ticket is known to be valid where it is packed.
     pub fn add(self, ticket: Ticket, out: &mut [u8]) -> WriterReply
         ensures { λ r. ⌜ WriterCalled self (plain.add ticket (now (out .entry))) r (now (out .exit)) ⌝ }
     {
         let phase = self.phase;
         let tickets = self.tickets;
-        let allowed = is_open(phase);
-        let valid = ticket::valid(ticket);
-        let full = 5000 <= tickets;
-        let short = out.len() < 13;
-        if !allowed {
+        if !is_open(phase) {
             return self.refused(1);
         }
-        if !valid {
+        if !ticket::valid(ticket) {
             return self.refused(4);
         }
-        if full {
+        if 5000 <= tickets {
             return self.refused(5);
         }
-        if short {
+        if out.len() < 13 {
             return self.refused(6);
         }
         let session = self.session;
         let bytes = ticket::packed(ticket);
-        let reply = session.seal_text(&bytes, out);
+        let reply = session.seal_13(&bytes, out);
         let answer = reply.answer;
         let Answer::Done(_, _) = answer else {
             return WriterReply {
@@ -167,6 +175,42 @@ impl Writer {
             writer: Writer {
                 session: after,
                 tickets: tickets + 1,
+                phase: WriterPhase::Open,
+            },
+        }
+    }
+
+    // The same, by the session's text call for pieces of every length. It is there for the first ticket of a tape, before which the data ends:
+    // a caller that sends only the others to `add` has no data end in that call.
+    pub fn add_first(self, ticket: Ticket, out: &mut [u8]) -> WriterReply
+        ensures { λ r. ⌜ WriterCalled self (plain.add ticket (now (out .entry))) r (now (out .exit)) ⌝ }
+    {
+        let phase = self.phase;
+        let tickets = self.tickets;
+        let valid = ticket::valid(ticket);
+        let full = 5000 <= tickets;
+        let short = out.len() < 13;
+        let number = number(is_open(phase), true, true, valid, full, short);
+        if number != 0 {
+            return self.refused(number);
+        }
+        let session = self.session;
+        let bytes = ticket::packed(ticket);
+        let reply = session.seal_text(&bytes, out);
+        let answer = reply.answer;
+        let Answer::Done(_, _) = answer else {
+            return WriterReply {
+                answer,
+                writer: self,
+            };
+        };
+        let after = reply.session;
+        let more = tickets + 1;
+        WriterReply {
+            answer,
+            writer: Writer {
+                session: after,
+                tickets: more,
                 phase: WriterPhase::Open,
             },
         }
@@ -203,7 +247,7 @@ impl Writer {
 }
 
 // Opens a tape: writes the plain bytes of its tickets, once the tag is known to match and every ticket has unpacked, and answers their
-// number and total net. The scratch is cleared first, so a short tape gets a short one.
+// number and total net. The text is decrypted into a scratch on the stack, which is cleared where the tape is sent back.
 pub fn open_tape(key: &[u8], tape: &[u8], out: &mut [u8]) -> OpenedTape
     ensures { λ r. ⌜ openTape (now (key .entry)) (now (tape .entry)) (now (out .entry)) ≡ record { answer = openedReply r; out = now (out .exit) } ⌝ }
 {
@@ -215,10 +259,17 @@ pub fn open_tape(key: &[u8], tape: &[u8], out: &mut [u8]) -> OpenedTape
         let mut scratch = [0; 512];
         return open_by(&mut scratch, key, tape, out);
     }
-    if tape.len() <= 8192 + 25 {
-        let mut scratch = [0; 8192];
-        return open_by(&mut scratch, key, tape, out);
+    open_long(key, tape, out)
+}
+
+// Opens a tape into a buffer of the caller's that nobody else reads: the text stands there before the tag is known, and the buffer is all
+// zeros after 7 and 8. The other numbers change nothing.
+pub fn open_scratch(key: &[u8], tape: &[u8], scratch: &mut [u8]) -> OpenedTape
+    ensures { λ r. ⌜ openScratch (now (key .entry)) (now (tape .entry)) (now (scratch .entry)) ≡ record { answer = openedReply r; out = now (scratch .exit) } ⌝ }
+{
+    let number = open_refusal(key, tape, scratch);
+    if number != 0 {
+        return OpenedTape::Refused(number);
     }
-    let mut scratch = [0; 65536];
-    open_by(&mut scratch, key, tape, out)
+    open_text(scratch, key, tape)
 }

@@ -12,17 +12,19 @@ use compare::same_bytes;
 use tape_model::OpenedTape;
 use tape_model::UnpackedHead;
 use ticket::tickets_length;
+use zeroize::zeroize;
 ghost use mathlib.Core.Path.{_≡_};
-ghost use Prim.Native.Nat.{_+_, _-_, _≤_};
-ghost use lib.ListN.{length, take};
+ghost use Prim.Native.Nat.{_+_, _≤_};
+ghost use lib.ListN.{length, replicate};
 ghost use Rattle.acorn_model.specs.Stretches.{tagLength, afterData};
-ghost use Rattle.acorn_model.specs.Calls.{unlessRefused};
+ghost use Rattle.acorn_model.specs.Calls.{unlessRefused, writtenOver};
 ghost use Rattle.acorn_model.specs.Machine.{keyLength};
 ghost use Rattle.acorn_model.specs.Message.{tagMatches, opened};
 ghost use Rattle.acorn_kernel.specs.Together.{stateOf};
+ghost use Rattle.tape_model.specs.declared.OpenedTape.the-variants.{Refused};
 ghost use Rattle.tape_model.specs.Ticket.{headLength, unpackHead};
 ghost use Rattle.tape_model.specs.Tape.{nonceOf, isRefused, emptyTapeLength, tapeLength, openRefusal, openTape, openedReply};
-ghost use Rattle.tape.specs.Contracts.{textRefusal};
+ghost use Rattle.tape.specs.Contracts.{textRefusal, openScratch};
 
 // Whether so many bytes are those of a tape.
 fn tape_length(n: usize) -> bool
@@ -47,6 +49,7 @@ fn head_refused(head: &[u8]) -> bool
 // The number that sends an opening back before a step is run; 0 where none does, and the tag and the tickets decide.
 pub(crate) fn open_refusal(key: &[u8], tape: &[u8], out: &[u8]) -> u8
     ensures { λ r. ⌜ openRefusal (now (key .entry)) (now (tape .entry)) (now (out .entry)) ≡ unlessRefused r (textRefusal (now (key .entry)) (now (tape .entry))) r ⌝ }
+    ensures { λ r. ⌜ r ≤ 6 ⌝ }
 {
     let sized = tape_length(tape.len());
     if !((key.len() == 16) & sized) {
@@ -74,7 +77,7 @@ fn after_head(key: &[u8], head: &[u8]) -> State
 fn decrypted(scratch: &mut [u8], key: &[u8], head: &[u8], sealed: &[u8]) -> bool
     requires { ⌜ (length (now key) ≡ keyLength) × (length (now head) ≡ headLength) × (tagLength ≤ length (now sealed)) × (length (now sealed) ≤ length (now scratch) + tagLength) ⌝ }
     ensures { λ r. ⌜ r ≡ tagMatches (now (key .entry)) (nonceOf (now (head .entry))) (now (head .entry)) (now (sealed .entry)) ⌝ }
-    ensures { λ _. ⌜ take (length (now (sealed .entry)) - tagLength) (now (scratch .exit)) ≡ opened (now (key .entry)) (nonceOf (now (head .entry))) (now (head .entry)) (now (sealed .entry)) ⌝ }
+    ensures { λ _. ⌜ now (scratch .exit) ≡ writtenOver (opened (now (key .entry)) (nonceOf (now (head .entry))) (now (head .entry)) (now (sealed .entry))) (now (scratch .entry)) ⌝ }
 {
     let n = sealed.len() - 16;
     let s = decrypt(after_head(key, head), &sealed[..n], scratch);
@@ -82,20 +85,43 @@ fn decrypted(scratch: &mut [u8], key: &[u8], head: &[u8], sealed: &[u8]) -> bool
     same_bytes(&sealed[n..], &expected)
 }
 
-// The opening of a tape that only its tag and its tickets can send back. Its text is decrypted into the scratch.
+// Sends a tape back, and the scratch is all zeros.
+fn sent_back(number: u8, scratch: &mut [u8]) -> OpenedTape
+    ensures { λ r. ⌜ (r ≡ Refused number) × (now (scratch .exit) ≡ replicate (length (now (scratch .entry))) 0) ⌝ }
+{
+    zeroize(scratch);
+    OpenedTape::Refused(number)
+}
+
+// The opening of a tape that only its tag and its tickets can send back, with its text in the scratch: the tag is known, and the tickets are
+// read, only when the text stands there.
+pub(crate) fn open_text(scratch: &mut [u8], key: &[u8], tape: &[u8]) -> OpenedTape
+    requires { ⌜ openRefusal (now key) (now tape) (now scratch) ≡ textRefusal (now key) (now tape) ⌝ }
+    ensures { λ r. ⌜ openScratch (now (key .entry)) (now (tape .entry)) (now (scratch .entry)) ≡ record { answer = openedReply r; out = now (scratch .exit) } ⌝ }
+{
+    let good = decrypted(scratch, key, &tape[..9], &tape[9..]);
+    let n = tape.len() - 25;
+    if !good {
+        return sent_back(7, scratch);
+    }
+    let answer = ticket::totals(&scratch[..n]);
+    let OpenedTape::Done(_, net) = answer else {
+        return sent_back(8, scratch);
+    };
+    OpenedTape::Done(n / 13, net)
+}
+
+// The same with an output: the text is copied there from the scratch once nothing sends the tape back. The scratch is left as by `open_text`.
 pub(crate) fn open_by(scratch: &mut [u8], key: &[u8], tape: &[u8], out: &mut [u8]) -> OpenedTape
     requires { ⌜ (length (now tape) ≤ length (now scratch) + emptyTapeLength) × (openRefusal (now key) (now tape) (now out) ≡ textRefusal (now key) (now tape)) ⌝ }
     ensures { λ r. ⌜ openTape (now (key .entry)) (now (tape .entry)) (now (out .entry)) ≡ record { answer = openedReply r; out = now (out .exit) } ⌝ }
+    ensures { λ _. ⌜ now (scratch .exit) ≡ openScratch (now (key .entry)) (now (tape .entry)) (now (scratch .entry)) .out ⌝ }
 {
-    let good = decrypted(scratch, key, &tape[..9], &tape[9..]);
-    if !good {
-        return OpenedTape::Refused(7);
-    }
-    let n = tape.len() - 25;
-    let answer = ticket::totals(&scratch[..n]);
-    let OpenedTape::Done(_, net) = answer else {
-        return OpenedTape::Refused(8);
+    let answer = open_text(scratch, key, tape);
+    let OpenedTape::Done(_, _) = answer else {
+        return answer;
     };
+    let n = tape.len() - 25;
     bytes::copy(&scratch[..n], out);
-    OpenedTape::Done(n / 13, net)
+    answer
 }

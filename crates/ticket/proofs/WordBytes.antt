@@ -34,6 +34,14 @@ turned-back s n f =
     fit : Fit (byteWidths 8) (reverse s)
     fit = subst (λ (l : List ℕ). Fit (byteWidths 8) (reverse l)) (sym (eight s n)) (f 7, (f 6, (f 5, (f 4, (f 3, (f 2, (f 1, (f 0, tt))))))))
 
+-- the bytes of a word turned round, from its low end, are the word's from its top
+pub turned-bytes : (x y : ℕ) → y ≡ join (byteWidths 8) (reverse (cut (byteWidths 8) x)) → reverse (cut (byteWidths 8) y) ≡ cut (byteWidths 8) x
+turned-bytes x y e =
+    ap (λ (n : ℕ). reverse (cut (byteWidths 8) n)) e ∙ ap reverse (cut-join (byteWidths 8) (reverse (cut (byteWidths 8) x)) fit) ∙ reverse-reverse (cut (byteWidths 8) x)
+  where
+    fit : Fit (byteWidths 8) (reverse (cut (byteWidths 8) x))
+    fit = (omega arith, (omega arith, (omega arith, (omega arith, (omega arith, (omega arith, (omega arith, (omega arith, tt))))))))
+
 -- a string of a + b bytes: the first a are the top of its number, and the last b the rest
 module _ (a b : ℕ) (s : List ℕ) (n : length s ≡ a + b) (f : AreBytes s) where
   parts : join (byteWidths (length s)) s ≡ join (byteWidths a) (take a s) * 2 ^ totalWidth (byteWidths b) + join (byteWidths b) (take b (drop a s))

@@ -17,7 +17,7 @@ use tape_model::Ticket;
 use tape_model::UnpackedHead;
 use tape_model::UnpackedTicket;
 
-// The ticket rule.
+// The ticket rule. By the two orders, loaded and tare are in their ranges where tipped and gross are.
 pub fn valid(t: Ticket) -> bool
     ensures { λ r. ⌜ r ≡ model.ticketRule t ⌝ }
 {
@@ -26,10 +26,8 @@ pub fn valid(t: Ticket) -> bool
         & ((1 <= t.shovel) & (t.shovel <= 63))
         & ((1 <= t.tip) & (t.tip <= 63))
         & (t.grade <= 9)
-        & (t.loaded <= 43199)
         & (t.tipped <= 43199)
         & (t.gross <= 1048575)
-        & (t.tare <= 1048575)
         & (t.loaded <= t.tipped)
         & (t.tare < t.gross)
 }
@@ -76,27 +74,27 @@ fn words_of(t: Ticket) -> Words
     }
 }
 
-// The 13 bytes of the number.
+// The 13 bytes of the number, taken from the words turned round, so that four of them in a row are a shift.
 fn ticket_bytes(w: Words) -> [u8; 13]
     requires { ⌜ w .low < 2 ^ 40 ⌝ }
     ensures { λ r. ⌜ r ≡ cut (byteWidths 13) (w .high * 2 ^ 40 + w .low) ⌝ }
 {
-    let h = w.high;
-    let l = w.low;
+    let h = word::turned(w.high);
+    let l = word::turned(w.low * 0x100_0000);
     [
-        (h / 0x100_0000_0000_0000 % 256) as u8,
-        (h / 0x1_0000_0000_0000 % 256) as u8,
-        (h / 0x100_0000_0000 % 256) as u8,
-        (h / 0x1_0000_0000 % 256) as u8,
-        (h / 0x100_0000 % 256) as u8,
-        (h / 0x1_0000 % 256) as u8,
-        (h / 0x100 % 256) as u8,
         (h / 1 % 256) as u8,
-        (l / 0x1_0000_0000 % 256) as u8,
-        (l / 0x100_0000 % 256) as u8,
-        (l / 0x1_0000 % 256) as u8,
-        (l / 0x100 % 256) as u8,
+        (h / 0x100 % 256) as u8,
+        (h / 0x1_0000 % 256) as u8,
+        (h / 0x100_0000 % 256) as u8,
+        (h / 0x1_0000_0000 % 256) as u8,
+        (h / 0x100_0000_0000 % 256) as u8,
+        (h / 0x1_0000_0000_0000 % 256) as u8,
+        (h / 0x100_0000_0000_0000 % 256) as u8,
         (l / 1 % 256) as u8,
+        (l / 0x100 % 256) as u8,
+        (l / 0x1_0000 % 256) as u8,
+        (l / 0x100_0000 % 256) as u8,
+        (l / 0x1_0000_0000 % 256) as u8,
     ]
 }
 

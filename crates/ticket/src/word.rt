@@ -28,7 +28,7 @@ fn low_first(s: &[u8]) -> u64
 }
 
 // The number with its 8 bytes turned round.
-fn turned(x: u64) -> u64
+pub(crate) fn turned(x: u64) -> u64
     ensures { λ r. ⌜ r ≡ join (byteWidths 8) (reverse (cut (byteWidths 8) x)) ⌝ }
 {
     x % 256 * 0x100_0000_0000_0000

@@ -86,8 +86,8 @@ pub struct Opened {
 /// Opens a tape: writes 13 plain bytes for each ticket at the start of `out`, once the tag is known
 /// to match and every ticket has unpacked.
 ///
-/// An output as long as the tape is always long enough. Uses some 74 KiB of the
-/// stack.
+/// An output as long as the tape is always long enough. Takes of the stack what the tape needs:
+/// 4 KiB up to 157 tickets, at most 66 KiB.
 ///
 /// ```
 /// use haul_tape::{open_tape, Head, Opened, Refusal, Writer};
@@ -174,7 +174,7 @@ impl FusedIterator for Reader<'_> {}
 /// It has a line with device, shift and sheet; a line for each ticket with its position, truck,
 /// shovel, tip point, grade, loaded, tipped and net; and a line with tickets and total net. Of a
 /// tape that does not open it is `REFUSED` and the number. [`MOST_LISTING_BYTES`] are always
-/// enough. Uses some 325 KiB of the stack.
+/// enough. Takes 65 KiB of the stack.
 pub fn listing(key: &[u8], tape: &[u8], out: &mut [u8]) -> Result<usize, Refusal> {
     exports::list_tape(key, tape, out).into_result()
 }

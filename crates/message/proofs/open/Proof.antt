@@ -1,10 +1,25 @@
 -- `open` is whole opening, refusals included.
+use mathlib.Core.Path.{_≡_}
 use native.Mathlib.Omega.{arith}
-use Rattle.acorn_model.specs.Calls.{writtenReply}
-use Rattle.message.proofs.Opening.{sent-back, let-through, openable}
 use borrow.Author.Needs.{needs}
+use Rattle.acorn_model.specs.Calls.{writtenReply}
+use Rattle.acorn_model.specs.Message.{tagRefusal, openRefusal}
+use Rattle.acorn_model.proofs.Messages.{Openable}
+use Rattle.message.proofs.Opening.{sent-back, let-through, openable, opened-by-rest, refused-by-tag}
 use Rattle.message.proofs.open.Statement.{statement}
 use Rattle.message.proofs.open.Tie as tie
+
+-- no number applies before the tag is known
+abbrev start : tie.Else1 → tie.Start
+start c = c .before .before .before .before .before .before .before .before
+
+only-tag : (c : tie.Else1) → let a = start c .args in openRefusal (a .key .now) (a .nonce .now) (a .«data» .now) (a .sealed .now) (a .out .now) ≡ tagRefusal (a .key .now) (a .nonce .now) (a .«data» .now) (a .sealed .now)
+only-tag c =
+    let a = start c .args in
+    let-through (a .key .now) (a .nonce .now) (a .«data» .now) (a .sealed .now) (a .out .now) _ (c .before .open-refusal .ensures) (c .if1 .left)
+
+sizes : (c : tie.Else1) → let a = start c .args in Openable (a .key .now) (a .nonce .now) (a .«data» .now) (a .sealed .now) (a .out .now)
+sizes c = let a = start c .args in openable (a .key .now) (a .nonce .now) (a .«data» .now) (a .sealed .now) (a .out .now) (only-tag c)
 
 open-refusal-requires : tie.Need-open-refusal-requires
 open-refusal-requires c κs = search needs
@@ -18,57 +33,36 @@ returns c =
     let a = c .before .before .before .before .before .before .before .before .args in
     sent-back (a .key .now) (a .nonce .now) (a .«data» .now) (a .sealed .now) (a .out .now) _ (c .before .open-refusal .ensures) (c .if1 .taken)
 
-add-if2 : tie.Need-add-if2
-add-if2 c = search needs
+after-data-requires : tie.Need-after-data-requires
+after-data-requires c κs = (sizes c .key-size, sizes c .nonce-size)
 
-slice-aggregate-open-by : tie.Need-slice-aggregate-open-by
-slice-aggregate-open-by c = search needs
+open-all-requires : tie.Need-open-all-requires
+open-all-requires c κs = let o = sizes (c .before .before) in (o .tag-there, omega (arith, o .tag-there, o .room))
 
-open-by-requires : tie.Need-open-by-requires
-open-by-requires c κs =
-    let a = c .before .before .before .before .before .before .before .before .before .before .before .args in
-    let only-tag = let-through (a .key .now) (a .nonce .now) (a .«data» .now) (a .sealed .now) (a .out .now) _ (c .before .before .before .before .open-refusal .ensures) (c .before .before .before .if1 .left) in
-    (search needs, only-tag)
+sub-n : tie.Need-sub-n
+sub-n c = sizes (c .before .before .before .before .before .before) .tag-there
 
 same-length-2 : tie.Need-same-length-2
 same-length-2 c = search needs
 
 returns-2 : tie.Need-returns-2
-returns-2 c = search needs
-
-add-if3 : tie.Need-add-if3
-add-if3 c = search needs
-
-slice-aggregate-open-by-2 : tie.Need-slice-aggregate-open-by-2
-slice-aggregate-open-by-2 c = search needs
-
-open-by-requires-2 : tie.Need-open-by-requires-2
-open-by-requires-2 c κs =
-    let a = c .before .before .before .before .before .before .before .before .before .before .before .before .args in
-    let only-tag = let-through (a .key .now) (a .nonce .now) (a .«data» .now) (a .sealed .now) (a .out .now) _ (c .before .before .before .before .before .open-refusal .ensures) (c .before .before .before .before .if1 .left) in
-    (search needs, only-tag)
+unfolding writtenReply
+returns-2 c =
+    let sized = c .before .before .before .before .before .before in
+    let a = start sized .args in
+    opened-by-rest (a .key .now) (a .nonce .now) (a .«data» .now) (a .sealed .now) (a .out .now) (only-tag sized) _ _ _ (c .before .before .before .before .before .after-data .ensures)
+    (c .before .before .before .open-all .ensures .0) (c .before .before .before .open-all .ensures .1) (c .if2 .taken)
 
 same-length-3 : tie.Need-same-length-3
 same-length-3 c = search needs
 
 returns-3 : tie.Need-returns-3
-returns-3 c = search needs
-
-slice-aggregate-open-by-3 : tie.Need-slice-aggregate-open-by-3
-slice-aggregate-open-by-3 c = search needs
-
-open-by-requires-3 : tie.Need-open-by-requires-3
-open-by-requires-3 c κs =
-    let a = c .before .before .before .before .before .before .before .before .before .before .before .before .args in
-    let only-tag = let-through (a .key .now) (a .nonce .now) (a .«data» .now) (a .sealed .now) (a .out .now) _ (c .before .before .before .before .before .open-refusal .ensures) (c .before .before .before .before .if1 .left) in
-    let o = openable (a .key .now) (a .nonce .now) (a .«data» .now) (a .sealed .now) (a .out .now) only-tag in
-    (omega (arith, o .text-limit), only-tag)
-
-same-length-4 : tie.Need-same-length-4
-same-length-4 c = search needs
-
-returns-4 : tie.Need-returns-4
-returns-4 c = search needs
+unfolding writtenReply
+returns-3 c =
+    let sized = c .before .before .before .before .before .before in
+    let a = start sized .args in
+    refused-by-tag (a .key .now) (a .nonce .now) (a .«data» .now) (a .sealed .now) (a .out .now) (only-tag sized) _ _ _ (c .before .before .before .before .before .after-data .ensures)
+    (c .before .before .before .open-all .ensures .0) (c .before .before .before .open-all .ensures .1) (c .if2 .left)
 
 pub open-spec : {M : Type 1} → statement M
 open-spec =
@@ -77,17 +71,10 @@ open-spec =
     open-refusal-requires
     same-length
     returns
-    add-if2
-    slice-aggregate-open-by
-    open-by-requires
+    after-data-requires
+    open-all-requires
+    sub-n
     same-length-2
     returns-2
-    add-if3
-    slice-aggregate-open-by-2
-    open-by-requires-2
     same-length-3
-    returns-3
-    slice-aggregate-open-by-3
-    open-by-requires-3
-    same-length-4
-    returns-4)
+    returns-3)

@@ -1,10 +1,28 @@
 -- `ticket_bytes`: the bytes of the two words are those of their number.
-use mathlib.Core.Path.{sym}
+use Prim.Native.Nat.{ℕ, _*_, _^_, _<_}
+use mathlib.Core.Path.{_≡_, refl, sym, ap, ap₂, _∙_}
+use mathlib.Core.List.{List, _++_, reverse}
+use native.Mathlib.Omega.{arith}
 use borrow.Author.Needs.{needs}
-use Rattle.tape_model.specs.Format.{byteWidths}
-use Rattle.tape_model.proofs.Widths.{cut-append}
+use lib.ListN.{take}
+use Rattle.tape_model.specs.Format.{cut, byteWidths}
+use Rattle.tape_model.proofs.Widths.{cut-append, cons}
+use Rattle.ticket.proofs.WordBytes.{turned-bytes}
 use Rattle.ticket.proofs.ticket_bytes.Statement.{statement}
 use Rattle.ticket.proofs.ticket_bytes.Tie as tie
+
+-- 40 bits at the top of a word
+top : (x : ℕ) → x < 2 ^ 40 → take 5 (cut (byteWidths 8) (x * 2 ^ 24)) ≡ cut (byteWidths 5) x
+top x h = cons (omega arith) (cons (omega arith) (cons (omega arith) (cons (omega arith) (cons (omega arith) refl))))
+
+turned-requires : tie.Need-turned-requires
+turned-requires c κs = search needs
+
+mul-turned : tie.Need-mul-turned
+mul-turned c = search needs
+
+turned-requires-2 : tie.Need-turned-requires-2
+turned-requires-2 c κs = search needs
 
 cast-t6 : tie.Need-cast-t6
 cast-t6 c = search needs
@@ -46,12 +64,20 @@ cast-t42 : tie.Need-cast-t42
 cast-t42 c = search needs
 
 returns : tie.Need-returns
-returns c = sym (cut-append (byteWidths 8) (byteWidths 5) (c .args .w .high) (c .args .w .low) (search needs))
+returns c =
+    let start = c .before .before .before in
+    let high = start .args .w .high in
+    let low = start .args .w .low in
+    ap₂ _++_ (turned-bytes high _ (c .before .before .turned .ensures)) (ap (take 5) (turned-bytes (low * 2 ^ 24) _ (c .turned2 .ensures)) ∙ top low (start .pre))
+    ∙ sym (cut-append (byteWidths 8) (byteWidths 5) high low (start .pre))
 
 pub ticket-bytes-spec : {M : Type 1} → statement M
 ticket-bytes-spec =
     tie.close
     (tie.spec
+    turned-requires
+    mul-turned
+    turned-requires-2
     cast-t6
     cast-t9
     cast-t12

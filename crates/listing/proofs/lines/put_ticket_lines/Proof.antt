@@ -7,7 +7,7 @@ use borrow.Author.Needs.{needs}
 use Rattle.acorn_model.specs.Calls.{done}
 use Rattle.tape_model.specs.Reader.{ReadOutcome, ticket, readNext, nextReply}
 use Rattle.reader.specs.Contracts.{readerAt, readOutcome}
-use Rattle.listing.proofs.Texts.{wrote-nothing, wrote-length}
+use Rattle.listing.proofs.Texts.{wrote-nothing, wrote-length, wrote-as}
 use Rattle.listing.proofs.TicketLines.{not-else, all-lines, ticket-start, ticket-room, ticket-wrote, ticket-within}
 use Rattle.tape_model.specs.Tape.{ticketsIn}
 use Rattle.tape_model.specs.Listing.{ticketLines}
@@ -27,7 +27,7 @@ unfolding readOutcome
 out-of-reach c =
     let s = c .before .before .before .before .before .before in
     let l = c .before .before .before .loop in
-    not-else (s .args .plain .now) (s .args .out .now) (s .pre .0) (s .pre .1) (s .pre .2) (l .i) (omega arith) _ (ap (λ (o : ReadOutcome). o .answer) (c .before .read-at .ensures)) (c .match .keys2)
+    not-else (s .args .plain .now) (s .pre .0) (s .pre .1) (l .i) (omega arith) _ (ap (λ (o : ReadOutcome). o .answer) (c .before .read-at .ensures)) (c .match .keys2)
 
 -- the ticket that was handed out
 was-read : (c : tie.After-known-told Inv-loop μ-loop)
@@ -58,7 +58,7 @@ sub-put-ticket-line : tie.Need-sub-put-ticket-line Inv-loop μ-loop
 sub-put-ticket-line c =
     let l = c .before .before .before .before .before .loop in
     let s = c .before .before .before .before .before .before .before .before in
-    ticket-start (s .args .plain .now) (s .args .out .now) (s .pre .0) (s .pre .1) (s .pre .2) (l .i) (omega arith) _ (was-read c) (l .out) (l .at) (l .inv .1)
+    ticket-start (s .args .plain .now) (s .pre .0) (s .pre .1) (l .i) (omega arith) _ (was-read c) (s .args .out .now) (s .pre .2) (l .out) (l .at) (l .inv .1)
 
 part-put-ticket-line-start : tie.Need-part-put-ticket-line-start Inv-loop μ-loop
 part-put-ticket-line-start c = sub-put-ticket-line c
@@ -70,14 +70,14 @@ put-ticket-line-requires : tie.Need-put-ticket-line-requires Inv-loop μ-loop
 put-ticket-line-requires c κs =
     let l = c .before .before .before .before .before .before .loop in
     let s = c .before .before .before .before .before .before .before .before .before in
-    ticket-room (s .args .plain .now) (s .args .out .now) (s .pre .0) (s .pre .1) (s .pre .2) (l .i) (omega arith) _ (was-read (c .before)) (l .out) (l .at) (l .inv .1)
+    ticket-room (s .args .plain .now) (s .pre .0) (s .pre .1) (l .i) (omega arith) _ (was-read (c .before)) (s .args .out .now) (s .pre .2) (l .out) (l .at) (l .inv .1)
 
 add-at : tie.Need-add-at Inv-loop μ-loop
 add-at c =
     let told = c .before .before .before .before in
     let l = told .before .before .before .before .before .loop in
     let s = told .before .before .before .before .before .before .before .before in
-    let within = ticket-within (s .args .plain .now) (s .args .out .now) (s .pre .0) (s .pre .1) (s .pre .2) (l .i) (omega arith) _ (was-read told) (l .out) (l .at) (l .inv .1) _ _ (c .before .before .put-ticket-line .ensures) in
+    let within = ticket-within (s .args .plain .now) (s .pre .0) (s .pre .1) (l .i) (omega arith) _ (was-read told) (s .args .out .now) (s .pre .2) (l .out) (l .at) (l .inv .1) _ _ (c .before .before .put-ticket-line .ensures) in
     search needs
 
 add-i : tie.Need-add-i Inv-loop μ-loop
@@ -91,13 +91,13 @@ loop-again c =
     let told = c .before .before .before .before in
     let l = told .before .before .before .before .before .loop in
     let s = told .before .before .before .before .before .before .before .before in
-    (omega arith, ticket-wrote (s .args .plain .now) (s .args .out .now) (s .pre .0) (s .pre .1) (s .pre .2) (l .i) (omega arith) _ (was-read told) (l .out) (l .at) (l .inv .1) _ _ (c .before .before .put-ticket-line .ensures))
+    (omega arith, ticket-wrote (s .args .plain .now) (s .pre .0) (s .pre .1) (l .i) (omega arith) _ (was-read told) (s .args .out .now) (s .pre .2) (l .out) (l .at) (l .inv .1) _ _ (c .before .before .put-ticket-line .ensures))
 
 returns-2 : tie.Need-returns-2 Inv-loop μ-loop
 returns-2 c =
     let s = c .before .before .before .before in
     let l = c .before .loop in
-    all-lines (s .args .plain .now) (s .args .out .now) (s .pre .0) (s .pre .1) (s .pre .2) (l .i) (l .at) (l .out) (omega arith) (l .inv .1)
+    wrote-as (all-lines (s .args .plain .now) (s .pre .0) (s .pre .1) (l .i) (omega arith)) (l .inv .1)
 
 same-length-2 : tie.Need-same-length-2 Inv-loop μ-loop
 same-length-2 c = wrote-length (c .before .before .before .before .pre .2) (returns-2 c)

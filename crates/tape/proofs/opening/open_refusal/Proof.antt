@@ -24,7 +24,7 @@ tape-length-requires c κs = search needs
 
 returns : tie.Need-returns
 unfolding openRefusal unlessRefused
-returns c = rw (← c .before .tape-length .ensures, c .if1 .taken)
+returns c = (rw (← c .before .tape-length .ensures, c .if1 .taken), search needs)
 
 slice-aggregate-head-refused : tie.Need-slice-aggregate-head-refused
 slice-aggregate-head-refused c =
@@ -38,7 +38,7 @@ returns-2 : tie.Need-returns-2
 unfolding openRefusal unlessRefused
 returns-2 c =
     let sized = c .before .before .before in
-    rw (← sized .before .tape-length .ensures, sized .if1 .left, ← c .before .head-refused .ensures, c .if2 .taken)
+    (rw (← sized .before .tape-length .ensures, sized .if1 .left, ← c .before .head-refused .ensures, c .if2 .taken), search needs)
 
 sub-if3 : tie.Need-sub-if3
 sub-if3 c = tape-size (c .before .before .before) .long
@@ -47,26 +47,30 @@ returns-3 : tie.Need-returns-3
 unfolding openRefusal unlessRefused
 returns-3 c =
     let sized = c .before .before .before .before in
-    let a = sized .before .before .before .before .before .args in
-    rw (
-      ← sized .before .tape-length .ensures,
-      sized .if1 .left,
-      ← c .before .before .head-refused .ensures,
-      c .before .if2 .left,
-      lt-ltb (length (a .out .now)) (ticketLength * ticketCount (a .tape .now)) (omega (arith, text-length (length (a .tape .now)) (tape-size sized), c .if3 .taken)),
+    let a = sized .before .before .before .before .before .args in (
+      rw (
+        ← sized .before .tape-length .ensures,
+        sized .if1 .left,
+        ← c .before .before .head-refused .ensures,
+        c .before .if2 .left,
+        lt-ltb (length (a .out .now)) (ticketLength * ticketCount (a .tape .now)) (omega (arith, text-length (length (a .tape .now)) (tape-size sized), c .if3 .taken)),
+      ),
+      search needs,
     )
 
 returns-4 : tie.Need-returns-4
 unfolding openRefusal unlessRefused textRefusal
 returns-4 c =
     let sized = c .before .before .before .before in
-    let a = sized .before .before .before .before .before .args in
-    rw (
-      ← sized .before .tape-length .ensures,
-      sized .if1 .left,
-      ← c .before .before .head-refused .ensures,
-      c .before .if2 .left,
-      le-ltb (length (a .out .now)) (ticketLength * ticketCount (a .tape .now)) (omega (arith, text-length (length (a .tape .now)) (tape-size sized), c .if3 .left)),
+    let a = sized .before .before .before .before .before .args in (
+      rw (
+        ← sized .before .tape-length .ensures,
+        sized .if1 .left,
+        ← c .before .before .head-refused .ensures,
+        c .before .if2 .left,
+        le-ltb (length (a .out .now)) (ticketLength * ticketCount (a .tape .now)) (omega (arith, text-length (length (a .tape .now)) (tape-size sized), c .if3 .left)),
+      ),
+      search needs,
     )
 
 pub open-refusal-spec : {M : Type 1} → statement M

@@ -1,0 +1,97 @@
+// The lengths of a listing's lines, by which it is known whether the text fits before any of it is written.
+use reader::read_at;
+use tape_model::Head;
+use tape_model::NextTicket;
+use tape_model::Ticket;
+ghost use mathlib.Core.Path.{_≡_};
+ghost use mathlib.Core.Bool.{true, false};
+ghost use Prim.Native.Nat.{_≤_};
+ghost use lib.ListN.{length};
+ghost use Rattle.acorn_model.specs.Calls.{done};
+ghost use Rattle.tape_model.specs.Tape.{ticketsLength, isRefused, ticketsIn};
+ghost use Rattle.tape_model.specs.Listing as model;
+ghost use Rattle.listing.specs.Contracts.{PlainTickets, unpacked, linesOf};
+
+// How many digits a number has: at most 20, so that no sum of a few such lengths wraps.
+fn decimal_length(n: u64) -> usize
+    ensures { λ r. ⌜ r ≡ length (model.decimal n) ⌝ }
+    ensures { λ r. ⌜ r ≤ 20 ⌝ }
+{
+    let mut left = n;
+    let mut digits: usize = 1;
+    while 10 <= left {
+        left /= 10;
+        digits += 1;
+    }
+    digits
+}
+
+pub(crate) fn refused_line_length(number: u8) -> usize
+    ensures { λ r. ⌜ r ≡ length (model.refusedLine number) ⌝ }
+{
+    9 + decimal_length(number as u64)
+}
+
+fn head_line_length(head: Head) -> usize
+    ensures { λ r. ⌜ r ≡ length (model.headLine head) ⌝ }
+    ensures { λ r. ⌜ r ≤ 68 ⌝ }
+{
+    let device = decimal_length(head.device as u64);
+    let shift = decimal_length(head.shift as u64);
+    let sheet = decimal_length(head.sheet as u64);
+    8 + device + shift + sheet
+}
+
+fn total_line_length(tickets: usize, net: u64) -> usize
+    ensures { λ r. ⌜ r ≡ length (model.totalsLine tickets net) ⌝ }
+    ensures { λ r. ⌜ r ≤ 48 ⌝ }
+{
+    8 + decimal_length(tickets as u64) + decimal_length(net)
+}
+
+fn ticket_line_length(position: usize, t: Ticket) -> usize
+    ensures { λ r. ⌜ r ≡ length (model.ticketLine position t) ⌝ }
+    ensures { λ r. ⌜ r ≤ 168 ⌝ }
+{
+    let first = decimal_length(position as u64);
+    let truck = decimal_length(t.truck as u64);
+    let shovel = decimal_length(t.shovel as u64);
+    let tip = decimal_length(t.tip as u64);
+    let grade = decimal_length(t.grade as u64);
+    let loaded = decimal_length(t.loaded as u64);
+    let tipped = decimal_length(t.tipped as u64);
+    let net = decimal_length(ticket::net(t) as u64);
+    8 + first + truck + shovel + tip + grade + loaded + tipped + net
+}
+
+// The length of the lines of the tickets in opened bytes.
+fn ticket_lines_length(plain: &[u8]) -> usize
+    requires { ⌜ (ticketsLength (length (now plain)) ≡ true) × (isRefused (unpacked (now plain)) ≡ false) ⌝ }
+    ensures { λ r. ⌜ r ≡ length (linesOf (now (plain .entry))) ⌝ }
+    ensures { λ r. ⌜ r ≤ 840000 ⌝ }
+{
+    let tickets = plain.len() / 13;
+    let mut i: usize = 0;
+    let mut sum: usize = 0;
+    while i < tickets {
+        let read = read_at(plain, i);
+        let answer = read.answer;
+        let NextTicket::Done(t) = answer else {
+            return sum;
+        };
+        sum += ticket_line_length(i + 1, t);
+        i += 1;
+    }
+    sum
+}
+
+// The length of the listing of a tape with this head that opened to these bytes.
+pub(crate) fn listed_length(head: Head, plain: &[u8], net: u64) -> usize
+    requires { ⌜ PlainTickets (now plain) net ⌝ }
+    ensures { λ r. ⌜ r ≡ length (model.listed (done head) (ticketsIn (unpacked (now (plain .entry))))) ⌝ }
+{
+    let first = head_line_length(head);
+    let tickets = ticket_lines_length(plain);
+    let last = total_line_length(plain.len() / 13, net);
+    first + tickets + last
+}

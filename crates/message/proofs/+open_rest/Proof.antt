@@ -1,0 +1,409 @@
+-- `open_rest`: a piece and what is behind it, by the laws of `Rest`. The sealed bytes left get fewer.
+use borrow.Author.Needs.{needs}
+use Prim.Native.Nat.{ℕ, _+_, _-_, _≤_, _<_}
+use mathlib.Core.Path.{_≡_, sym, ap, ap₂, _∙_}
+use mathlib.Core.Logic.{⊎-elim}
+use mathlib.Core.Bool.{Bool}
+use mathlib.Core.List.{List}
+use native.Mathlib.Omega.{arith}
+use lib.ListN.{length, take, drop, length-take, length-drop}
+use lib.Seq.{length-take-le}
+use borrow.Rule.Slice.PartMut.{same-len-mid}
+use Rattle.acorn_model.specs.Bits.{Bits, _if_else_}
+use Rattle.acorn_model.specs.Stretches.{tagLength, through, textEnd, tagOf}
+use Rattle.acorn_model.specs.Calls.{writtenOver, sameBytes}
+use Rattle.acorn_kernel.specs.Together.{stateOf}
+use Rattle.message.specs.Contracts.{restMatches, restOpened}
+use Rattle.message.proofs.Rest.{all-left, matches-behind, next-state, piece-text, handed-over, tag-last, last-handed-over}
+use borrow.Fn.Kinds.{In}
+use borrow.Fn.PlainCycle.{Measures, is, falls, and}
+use Rattle.message.proofs.open_rest.Reads as open-rest
+use Rattle.message.proofs.open_rest.Kinds as open-rest-kinds
+use Rattle.message.proofs.+open_rest.Lts-open_rest as open-rest-lts
+use Rattle.acorn.proofs.decrypt.Reads as decrypt-reads
+use Rattle.message.proofs.hand_over.Reads as hand-over-reads
+use Rattle.message.proofs.piece_length.Reads as piece-length-reads
+use Rattle.message.proofs.tag_is.Reads as tag-is-reads
+use Rattle.message.proofs.+open_rest.{statement}
+use Rattle.message.proofs.+open_rest.Tie.{close}
+
+abbrev μ-open-rest : Measures 2 open-rest-kinds.ps ℕ
+μ-open-rest κs a = length (a .1 .0 .now)
+
+abbrev open-rest-at : ℕ → In 2 open-rest-kinds.ps
+open-rest-at t = and 2 open-rest-kinds.ps (is 2 open-rest-kinds.ps μ-open-rest t) open-rest.Pre
+
+abbrev open-rest-below : ℕ → In 2 open-rest-kinds.ps
+open-rest-below t =
+    and 2 open-rest-kinds.ps (falls 2 open-rest-kinds.ps _<_ μ-open-rest t) open-rest.Pre
+
+open-rest-sub-left : (t : ℕ) → open-rest-lts.Need-sub-left (
+  piece-length-reads.Asked,
+  piece-length-reads.Learnt,
+  decrypt-reads.Asked,
+  decrypt-reads.Learnt,
+  open-rest-below t,
+  open-rest.Post,
+  tag-is-reads.Asked,
+  tag-is-reads.Learnt,
+  hand-over-reads.Asked,
+  hand-over-reads.Learnt,
+) (open-rest-at t) open-rest.Post
+open-rest-sub-left t c = search needs
+
+open-rest-piece-length-requires : (t : ℕ) → open-rest-lts.Need-piece-length-requires (
+  piece-length-reads.Asked,
+  piece-length-reads.Learnt,
+  decrypt-reads.Asked,
+  decrypt-reads.Learnt,
+  open-rest-below t,
+  open-rest.Post,
+  tag-is-reads.Asked,
+  tag-is-reads.Learnt,
+  hand-over-reads.Asked,
+  hand-over-reads.Learnt,
+) (open-rest-at t) open-rest.Post
+open-rest-piece-length-requires t c κs = search needs
+
+open-rest-slice-aggregate-decrypt : (t : ℕ) → open-rest-lts.Need-slice-aggregate-decrypt (
+  piece-length-reads.Asked,
+  piece-length-reads.Learnt,
+  decrypt-reads.Asked,
+  decrypt-reads.Learnt,
+  open-rest-below t,
+  open-rest.Post,
+  tag-is-reads.Asked,
+  tag-is-reads.Learnt,
+  hand-over-reads.Asked,
+  hand-over-reads.Learnt,
+) (open-rest-at t) open-rest.Post
+open-rest-slice-aggregate-decrypt t c = sym (length-take-le (c .before .piece-length .result) (c .before .before .before .before .args .sealed .now) (omega arith))
+
+open-rest-slice-aggregate-decrypt-2 : (t : ℕ) → open-rest-lts.Need-slice-aggregate-decrypt-2 (
+  piece-length-reads.Asked,
+  piece-length-reads.Learnt,
+  decrypt-reads.Asked,
+  decrypt-reads.Learnt,
+  open-rest-below t,
+  open-rest.Post,
+  tag-is-reads.Asked,
+  tag-is-reads.Learnt,
+  hand-over-reads.Asked,
+  hand-over-reads.Learnt,
+) (open-rest-at t) open-rest.Post
+open-rest-slice-aggregate-decrypt-2 t c = search needs
+
+open-rest-decrypt-requires : (t : ℕ) → open-rest-lts.Need-decrypt-requires (
+  piece-length-reads.Asked,
+  piece-length-reads.Learnt,
+  decrypt-reads.Asked,
+  decrypt-reads.Learnt,
+  open-rest-below t,
+  open-rest.Post,
+  tag-is-reads.Asked,
+  tag-is-reads.Learnt,
+  hand-over-reads.Asked,
+  hand-over-reads.Learnt,
+) (open-rest-at t) open-rest.Post
+open-rest-decrypt-requires t c κs = search needs
+
+open-rest-sub-open-rest : (t : ℕ) → open-rest-lts.Need-sub-open-rest (
+  piece-length-reads.Asked,
+  piece-length-reads.Learnt,
+  decrypt-reads.Asked,
+  decrypt-reads.Learnt,
+  open-rest-below t,
+  open-rest.Post,
+  tag-is-reads.Asked,
+  tag-is-reads.Learnt,
+  hand-over-reads.Asked,
+  hand-over-reads.Learnt,
+) (open-rest-at t) open-rest.Post
+open-rest-sub-open-rest t c = search needs
+
+open-rest-part-open-rest-start : (t : ℕ) → open-rest-lts.Need-part-open-rest-start (
+  piece-length-reads.Asked,
+  piece-length-reads.Learnt,
+  decrypt-reads.Asked,
+  decrypt-reads.Learnt,
+  open-rest-below t,
+  open-rest.Post,
+  tag-is-reads.Asked,
+  tag-is-reads.Learnt,
+  hand-over-reads.Asked,
+  hand-over-reads.Learnt,
+) (open-rest-at t) open-rest.Post
+open-rest-part-open-rest-start t c = search needs
+
+open-rest-part-open-rest-end : (t : ℕ) → open-rest-lts.Need-part-open-rest-end (
+  piece-length-reads.Asked,
+  piece-length-reads.Learnt,
+  decrypt-reads.Asked,
+  decrypt-reads.Learnt,
+  open-rest-below t,
+  open-rest.Post,
+  tag-is-reads.Asked,
+  tag-is-reads.Learnt,
+  hand-over-reads.Asked,
+  hand-over-reads.Learnt,
+) (open-rest-at t) open-rest.Post
+open-rest-part-open-rest-end t c = search needs
+
+open-rest-sub-open-rest-2 : (t : ℕ) → open-rest-lts.Need-sub-open-rest-2 (
+  piece-length-reads.Asked,
+  piece-length-reads.Learnt,
+  decrypt-reads.Asked,
+  decrypt-reads.Learnt,
+  open-rest-below t,
+  open-rest.Post,
+  tag-is-reads.Asked,
+  tag-is-reads.Learnt,
+  hand-over-reads.Asked,
+  hand-over-reads.Learnt,
+) (open-rest-at t) open-rest.Post
+open-rest-sub-open-rest-2 t c = search needs
+
+open-rest-part-open-rest-start-2 : (t : ℕ) → open-rest-lts.Need-part-open-rest-start-2 (
+  piece-length-reads.Asked,
+  piece-length-reads.Learnt,
+  decrypt-reads.Asked,
+  decrypt-reads.Learnt,
+  open-rest-below t,
+  open-rest.Post,
+  tag-is-reads.Asked,
+  tag-is-reads.Learnt,
+  hand-over-reads.Asked,
+  hand-over-reads.Learnt,
+) (open-rest-at t) open-rest.Post
+open-rest-part-open-rest-start-2 t c = search needs
+
+open-rest-part-open-rest-end-2 : (t : ℕ) → open-rest-lts.Need-part-open-rest-end-2 (
+  piece-length-reads.Asked,
+  piece-length-reads.Learnt,
+  decrypt-reads.Asked,
+  decrypt-reads.Learnt,
+  open-rest-below t,
+  open-rest.Post,
+  tag-is-reads.Asked,
+  tag-is-reads.Learnt,
+  hand-over-reads.Asked,
+  hand-over-reads.Learnt,
+) (open-rest-at t) open-rest.Post
+open-rest-part-open-rest-end-2 t c = search needs
+
+open-rest-open-rest-requires : (t : ℕ) → open-rest-lts.Need-open-rest-requires (
+  piece-length-reads.Asked,
+  piece-length-reads.Learnt,
+  decrypt-reads.Asked,
+  decrypt-reads.Learnt,
+  open-rest-below t,
+  open-rest.Post,
+  tag-is-reads.Asked,
+  tag-is-reads.Learnt,
+  hand-over-reads.Asked,
+  hand-over-reads.Learnt,
+) (open-rest-at t) open-rest.Post
+open-rest-open-rest-requires t c κs =
+    let sized = c .before .before .before .before .before .before .before in
+    let start = sized .before .before .before in
+    let more = c .before .before .if1 .taken in
+    let whole = sized .piece-length .ensures .2 more in
+    simp (length-take, length-drop) (omega (arith, start .pre .0, whole, more), (omega (arith, start .pre .1 .0, more), omega (arith, start .pre .1 .1)))
+
+open-rest-sub-tag-is : (t : ℕ) → open-rest-lts.Need-sub-tag-is (
+  piece-length-reads.Asked,
+  piece-length-reads.Learnt,
+  decrypt-reads.Asked,
+  decrypt-reads.Learnt,
+  open-rest-below t,
+  open-rest.Post,
+  tag-is-reads.Asked,
+  tag-is-reads.Learnt,
+  hand-over-reads.Asked,
+  hand-over-reads.Learnt,
+) (open-rest-at t) open-rest.Post
+open-rest-sub-tag-is t c = search needs
+
+open-rest-part-tag-is-start : (t : ℕ) → open-rest-lts.Need-part-tag-is-start (
+  piece-length-reads.Asked,
+  piece-length-reads.Learnt,
+  decrypt-reads.Asked,
+  decrypt-reads.Learnt,
+  open-rest-below t,
+  open-rest.Post,
+  tag-is-reads.Asked,
+  tag-is-reads.Learnt,
+  hand-over-reads.Asked,
+  hand-over-reads.Learnt,
+) (open-rest-at t) open-rest.Post
+open-rest-part-tag-is-start t c = search needs
+
+open-rest-part-tag-is-end : (t : ℕ) → open-rest-lts.Need-part-tag-is-end (
+  piece-length-reads.Asked,
+  piece-length-reads.Learnt,
+  decrypt-reads.Asked,
+  decrypt-reads.Learnt,
+  open-rest-below t,
+  open-rest.Post,
+  tag-is-reads.Asked,
+  tag-is-reads.Learnt,
+  hand-over-reads.Asked,
+  hand-over-reads.Learnt,
+) (open-rest-at t) open-rest.Post
+open-rest-part-tag-is-end t c = search needs
+
+open-rest-tag-is-requires : (t : ℕ) → open-rest-lts.Need-tag-is-requires (
+  piece-length-reads.Asked,
+  piece-length-reads.Learnt,
+  decrypt-reads.Asked,
+  decrypt-reads.Learnt,
+  open-rest-below t,
+  open-rest.Post,
+  tag-is-reads.Asked,
+  tag-is-reads.Learnt,
+  hand-over-reads.Asked,
+  hand-over-reads.Learnt,
+) (open-rest-at t) open-rest.Post
+open-rest-tag-is-requires t c κs = search needs
+
+-- Where the two ways meet: the verdict, and what handing the piece over then gives. What stands in the output there is as long as it was.
+record Verdict (S : Bits) (s out text : List ℕ) (mid : List ℕ) (good : Bool) : Type 0 where
+  same-room : length mid ≡ length out
+  matches : good ≡ restMatches S s
+  opens : (out′ : List ℕ) → out′ ≡ (writtenOver text mid if good else mid) → out′ ≡ restOpened S s out
+
+verdict : (t : ℕ) (c : open-rest-lts.Joined1 (
+  piece-length-reads.Asked,
+  piece-length-reads.Learnt,
+  decrypt-reads.Asked,
+  decrypt-reads.Learnt,
+  open-rest-below t,
+  open-rest.Post,
+  tag-is-reads.Asked,
+  tag-is-reads.Learnt,
+  hand-over-reads.Asked,
+  hand-over-reads.Learnt,
+) (open-rest-at t) open-rest.Post) → let run = c .before .before in let sized = run .before .before .before in let a = sized .before .before .before .args in
+    Verdict (stateOf (a .s)) (a .sealed .now) (a .out .now) (take (sized .piece-length .result) (run .decrypt .last .1 .1 .0)) (c .if1 .out) (c .if1 .good)
+verdict t c =
+    let run = c .before .before in
+    let sized = run .before .before .before in
+    let start = sized .before .before .before in
+    let a = start .args in
+    let S = stateOf (a .s) in
+    let s = a .sealed .now in
+    let n = sized .piece-length .result in
+    let out = a .out .now in
+    let within : n + tagLength ≤ length s = omega (arith, start .pre .1 .0, sized .piece-length .ensures .0) in
+    let next = next-state S s n within _ _ _ (omega arith) (run .decrypt .ensures) in
+    let text = piece-text S s n within _ _ _ (omega arith) (run .decrypt .ensures) in
+    ⊎-elim
+    (λ w.
+    let matched = w .3 .ensures .0 ∙ ap₂ restMatches next (all-left S s n within) in
+    let behind = w .3 .ensures .1 ∙ ap₂ (λ (R : Bits) (l : List ℕ). restOpened R l (take (length out - n) (drop n out))) next (all-left S s n within) in
+    record {
+      same-room = ap length (w .6) ∙ same-len-mid n (length out - n) out (w .3 .last .1 .1 .0) (w .3 .kept .1 .1 .0);
+      matches = w .7 ∙ matched ∙ sym (matches-behind S s n within);
+      opens = λ out′ e. handed-over S s n within out _ (start .pre .1 .1) _ _ _ out′ (w .6) (w .7 ∙ matched) behind text e;
+    })
+    (λ w.
+    let last : n + tagLength ≡ length s = omega (arith, start .pre .1 .0, sized .piece-length .ensures .0, w .0 .left) in
+    let matched = w .4 ∙ w .2 .ensures ∙ ap₂ (λ (l : List ℕ) (R : Bits). sameBytes l (tagOf (through textEnd R))) (all-left S s n within) next ∙ sym (tag-last S s n within last) in
+    record {
+      same-room = ap length (w .3);
+      matches = matched;
+      opens = λ out′ e. last-handed-over S s n within last _ _ out out′ matched text (e ∙ ap (λ (l : List ℕ). writtenOver (take n (run .decrypt .last .1 .1 .0)) l if c .if1 .good else l) (w .3));
+    })
+    (c .if1 .came)
+
+open-rest-slice-aggregate-hand-over : (t : ℕ) → open-rest-lts.Need-slice-aggregate-hand-over (
+  piece-length-reads.Asked,
+  piece-length-reads.Learnt,
+  decrypt-reads.Asked,
+  decrypt-reads.Learnt,
+  open-rest-below t,
+  open-rest.Post,
+  tag-is-reads.Asked,
+  tag-is-reads.Learnt,
+  hand-over-reads.Asked,
+  hand-over-reads.Learnt,
+) (open-rest-at t) open-rest.Post
+open-rest-slice-aggregate-hand-over t c = search needs
+
+open-rest-hand-over-requires : (t : ℕ) → open-rest-lts.Need-hand-over-requires (
+  piece-length-reads.Asked,
+  piece-length-reads.Learnt,
+  decrypt-reads.Asked,
+  decrypt-reads.Learnt,
+  open-rest-below t,
+  open-rest.Post,
+  tag-is-reads.Asked,
+  tag-is-reads.Learnt,
+  hand-over-reads.Asked,
+  hand-over-reads.Learnt,
+) (open-rest-at t) open-rest.Post
+open-rest-hand-over-requires t c κs = let start = c .before .before .before .before .before .before .before .before .before .before in (search needs, omega (arith, start .pre .1, verdict t (c .before .before) .same-room))
+
+open-rest-same-length : (t : ℕ) → open-rest-lts.Need-same-length (
+  piece-length-reads.Asked,
+  piece-length-reads.Learnt,
+  decrypt-reads.Asked,
+  decrypt-reads.Learnt,
+  open-rest-below t,
+  open-rest.Post,
+  tag-is-reads.Asked,
+  tag-is-reads.Learnt,
+  hand-over-reads.Asked,
+  hand-over-reads.Learnt,
+) (open-rest-at t) open-rest.Post
+open-rest-same-length t c = c .before .before .before .hand-over .kept .1 .1 .1 .0 ∙ verdict t (c .before .before .before .before .before .before) .same-room
+
+open-rest-returns : (t : ℕ) → open-rest-lts.Need-returns (
+  piece-length-reads.Asked,
+  piece-length-reads.Learnt,
+  decrypt-reads.Asked,
+  decrypt-reads.Learnt,
+  open-rest-below t,
+  open-rest.Post,
+  tag-is-reads.Asked,
+  tag-is-reads.Learnt,
+  hand-over-reads.Asked,
+  hand-over-reads.Learnt,
+) (open-rest-at t) open-rest.Post
+open-rest-returns t c = let v = verdict t (c .before .before .before .before .before .before) in (v .matches, v .opens _ (c .before .before .before .hand-over .ensures .0))
+
+pub +open-rest-spec : {M : Type 1} → statement M
++open-rest-spec = close μ-open-rest λ t. open-rest-lts.spec (
+  piece-length-reads.Asked,
+  piece-length-reads.Learnt,
+  decrypt-reads.Asked,
+  decrypt-reads.Learnt,
+  open-rest-below t,
+  open-rest.Post,
+  tag-is-reads.Asked,
+  tag-is-reads.Learnt,
+  hand-over-reads.Asked,
+  hand-over-reads.Learnt,
+)
+    (open-rest-at t)
+    open-rest.Post
+    (open-rest-sub-left t)
+    (open-rest-piece-length-requires t)
+    (open-rest-slice-aggregate-decrypt t)
+    (open-rest-slice-aggregate-decrypt-2 t)
+    (open-rest-decrypt-requires t)
+    (open-rest-sub-open-rest t)
+    (open-rest-part-open-rest-start t)
+    (open-rest-part-open-rest-end t)
+    (open-rest-sub-open-rest-2 t)
+    (open-rest-part-open-rest-start-2 t)
+    (open-rest-part-open-rest-end-2 t)
+    (open-rest-open-rest-requires t)
+    (open-rest-sub-tag-is t)
+    (open-rest-part-tag-is-start t)
+    (open-rest-part-tag-is-end t)
+    (open-rest-tag-is-requires t)
+    (open-rest-slice-aggregate-hand-over t)
+    (open-rest-hand-over-requires t)
+    (open-rest-same-length t)
+    (open-rest-returns t)

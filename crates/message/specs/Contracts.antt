@@ -1,0 +1,17 @@
+-- What opening the rest of a message comes to: its sealed bytes, from some place in the ciphertext on, and the state before them.
+use mathlib.Core.Bool.{Bool, true}
+use mathlib.Core.List.{List}
+use Prim.Native.Nat.{ℕ}
+use Rattle.acorn_model.specs.Bits.{Bits, _if_else_}
+use Rattle.acorn_model.specs.Stretches.{textOut, tagOf, beforeFinal}
+use Rattle.acorn_model.specs.Calls.{writtenOver, sameBytes}
+use Rattle.acorn_model.specs.Message.{cipherPart, tagPart}
+
+module _ (S : Bits) (sealedBytes : List ℕ) where
+  -- whether the tag at the end is the one
+  unfoldable pub restMatches : Bool
+  restMatches = sameBytes (tagPart sealedBytes) (tagOf (beforeFinal true (cipherPart sealedBytes) S))
+
+  -- the output: the text is written where it is
+  unfoldable pub restOpened : List ℕ → List ℕ
+  restOpened out = writtenOver (textOut true (cipherPart sealedBytes) S) out if restMatches else out
