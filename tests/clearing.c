@@ -1,4 +1,4 @@
-/* After an opening or a listing that is refused, nothing of the decrypted text may stand on the stack. Each call is run on a
+/* After an opening or a listing that is refused, no 8 bytes of the decrypted text may stand on the stack. Each call is run on a
  * stack of its own, which is then searched whole: for any 8 bytes of the text, of the last four fields of a ticket (as the struct
  * has them), and of the listing behind its first line, at any place and in either order of bytes. A text of 4 to 7 bytes is looked
  * for whole; a shorter one cannot be told from other bytes. Registers are not looked at. A listing is refused where its text is
@@ -233,9 +233,9 @@ int main(int argc, char **argv)
         for (enum bad bad = NONE_BAD; bad <= ALL_BAD; bad++)
             tape_of(tickets[i], bad);
     if (faults > 0) {
-        printf("clearing: %d of %d refused calls leave decrypted text on the stack\n", faults, cases);
+        printf("clearing: %d of %d refused calls leave 8 bytes or more of decrypted text on the stack\n", faults, cases);
         return 1;
     }
-    printf("clearing: %d refused openings and listings leave no text on the stack\n", cases);
+    printf("clearing: %d refused openings and listings leave no 8 bytes of text on the stack\n", cases);
     return 0;
 }

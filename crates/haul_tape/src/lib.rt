@@ -214,7 +214,7 @@ pub extern "C" fn ht_writer_start(
     writer_handed_back(w, reply)
 }
 
-// The first ticket goes another way than the others, so that these have no data end to pass by.
+// The first ticket goes another way than the others, so that the code for these has no data end in it.
 #[no_mangle]
 pub extern "C" fn ht_writer_add(w: &mut [u64; 12], ticket: Ticket, out: &mut [u8]) -> HtAnswer
     ensures { λ r. ⌜ WriterSeen (now (w .entry)) (plain.add ticket (now (out .entry))) (now (w .exit)) r (now (out .exit)) ⌝ }

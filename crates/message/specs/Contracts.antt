@@ -8,10 +8,10 @@ use Rattle.acorn_model.specs.Calls.{writtenOver, sameBytes}
 use Rattle.acorn_model.specs.Message.{cipherPart, tagPart}
 
 module _ (S : Bits) (sealedBytes : List ℕ) where
-  -- whether the tag at the end is the one
+  -- whether the tag at the end is that of the state and the ciphertext before it
   unfoldable pub restMatches : Bool
   restMatches = sameBytes (tagPart sealedBytes) (tagOf (beforeFinal true (cipherPart sealedBytes) S))
 
-  -- the output: the text is written where it is
+  -- the output after it: where the tag matches, the text is written
   unfoldable pub restOpened : List ℕ → List ℕ
   restOpened out = writtenOver (textOut true (cipherPart sealedBytes) S) out if restMatches else out

@@ -183,7 +183,8 @@ impl Session {
         next.done(piece.len())
     }
 
-    // The same, by the run that is made for pieces of 13 bytes. It repeats the tests: shared ones are not compiled into the one caller.
+    // The same, by the run that is made for pieces of 13 bytes. It repeats the tests of `seal_text`: with a number from a function that both
+    // share, an add takes longer.
     pub fn seal_13(self, piece: &[u8], out: &mut [u8]) -> Reply
         ensures { λ r. ⌜ Called self (machine.sealText (now (piece .entry)) (now (out .entry))) r (now (out .exit)) ⌝ }
     {
