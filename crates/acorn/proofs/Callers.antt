@@ -7,7 +7,7 @@ use borrow.Author.Tests.{le-ltb}
 use lib.ListN.{length}
 use Rattle.acorn_model.specs.Bits.{Bits}
 use Rattle.acorn_model.specs.Stretches.{through, zeros, start, textPiece, textOut}
-use Rattle.acorn_model.specs.Calls.{writtenOver}
+use Rattle.calls.specs.Calls.{writtenOver}
 use Rattle.acorn_model.specs.Machine.{keyLength}
 use Rattle.acorn.specs.Runs.{TextRun, startState}
 use Rattle.acorn.proofs.FixedRuns.{start-all}

@@ -8,8 +8,8 @@ use borrow.Author.Tests.{lt-ltb, le-ltb}
 use Rattle.acorn_model.specs.Stretches.{start, dataPiece, dataEnd, textPiece, textEnd, final}
 use Rattle.acorn_model.specs.Machine.{byteLimit}
 use Rattle.acorn.specs.Table.{stretchAt, firstStep, rowOf, caAt, cbAt, ControlsAt}
-use Rattle.acorn.specs.declared.stretch.Stretch.{Stretch}
-use Rattle.acorn.specs.declared.stretch.Stretch.the-variants.{Start, Data, DataEnd, Text, TextEnd, Final}
+use Rattle.acorn.specs.declared.stretch.StretchName.{StretchName}
+use Rattle.acorn.specs.declared.stretch.StretchName.the-variants.{Start, Data, DataEnd, Text, TextEnd, Final}
 
 -- ## The ranges
 
@@ -39,22 +39,22 @@ module _ (n : ℕ) where
   in-final l = rw (le-ltb n 1792 (omega arith), le-ltb n 526080 (omega arith), le-ltb n 526336 (omega arith), le-ltb n 1050624 (omega arith), le-ltb n 1050880 l)
 
   -- the control bits of a step whose stretch is known
-  module _ (stretch : Stretch) (e : stretchAt n ≡ stretch) where
+  module _ (stretch : StretchName) (e : stretchAt n ≡ stretch) where
     pub ca-in : caAt n ≡ rowOf stretch .ca (n - firstStep stretch)
     unfolding caAt
-    ca-in = ap (λ (s : Stretch). rowOf s .ca (n - firstStep s)) e
+    ca-in = ap (λ (s : StretchName). rowOf s .ca (n - firstStep s)) e
 
     pub cb-in : cbAt n ≡ rowOf stretch .cb
     unfolding cbAt
-    cb-in = ap (λ (s : Stretch). rowOf s .cb) e
+    cb-in = ap (λ (s : StretchName). rowOf s .cb) e
 
-    pub controls-in : (s : Stretch) (ca cb : Bool) → s ≡ stretch → ca ≡ rowOf stretch .ca (n - firstStep stretch) → cb ≡ rowOf stretch .cb → ControlsAt n s ca cb
+    pub controls-in : (s : StretchName) (ca cb : Bool) → s ≡ stretch → ca ≡ rowOf stretch .ca (n - firstStep stretch) → cb ≡ rowOf stretch .cb → ControlsAt n s ca cb
     controls-in s ca cb hs ha hb = record { stretchIs = hs ∙ sym e; caIs = ha ∙ sym ca-in; cbIs = hb ∙ sym cb-in }
 
 -- ## The rows in turn
 
 -- the steps of each in the longest message
-unfoldable pub stepsOf : Stretch → ℕ
+unfoldable pub stepsOf : StretchName → ℕ
 stepsOf Start = 1792
 stepsOf Data = 524288
 stepsOf DataEnd = 256
@@ -76,7 +76,7 @@ first-steps = (refl, refl, refl, refl, refl, refl)
 
 -- step i of a stretch has the control bits of step i of its row
 module _ (i : ℕ) where
-  in-stretch : (stretch : Stretch) → i < stepsOf stretch → stretchAt (firstStep stretch + i) ≡ stretch
+  in-stretch : (stretch : StretchName) → i < stepsOf stretch → stretchAt (firstStep stretch + i) ≡ stretch
   unfolding stepsOf firstStep
   in-stretch Start h = in-start (0 + i) (omega arith)
   in-stretch Data h = in-data (1792 + i) (omega arith) (omega arith)
@@ -85,10 +85,10 @@ module _ (i : ℕ) where
   in-stretch TextEnd h = in-text-end (1050624 + i) (omega arith) (omega arith)
   in-stretch Final h = in-final (1050880 + i) (omega arith)
 
-  pub ca-of-row : (stretch : Stretch) → i < stepsOf stretch → caAt (firstStep stretch + i) ≡ rowOf stretch .ca i
+  pub ca-of-row : (stretch : StretchName) → i < stepsOf stretch → caAt (firstStep stretch + i) ≡ rowOf stretch .ca i
   ca-of-row stretch h = ca-in (firstStep stretch + i) stretch (in-stretch stretch h) ∙ ap (rowOf stretch .ca) (omega arith)
 
-  pub cb-of-row : (stretch : Stretch) → i < stepsOf stretch → cbAt (firstStep stretch + i) ≡ rowOf stretch .cb
+  pub cb-of-row : (stretch : StretchName) → i < stepsOf stretch → cbAt (firstStep stretch + i) ≡ rowOf stretch .cb
   cb-of-row stretch h = cb-in (firstStep stretch + i) stretch (in-stretch stretch h)
 
 -- data has at every step the control bits of its first, whatever the piece; and so has text

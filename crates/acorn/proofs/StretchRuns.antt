@@ -12,11 +12,11 @@ use lib.Bits.{bitXor}
 use Rattle.acorn_model.specs.Bits.{Bits, _⊕_, bit, bitsIn, bytes}
 use Rattle.acorn_model.specs.Step.{StepInput, run, keystreamBit}
 use Rattle.acorn_model.specs.Stretches.{Stretch, inputs, through, keystream, dataPiece, textPiece, textOut}
-use Rattle.acorn_model.specs.Calls.{writtenOver}
+use Rattle.calls.specs.Calls.{writtenOver}
 use Rattle.acorn_kernel.specs.Together.{inputsFrom, Together}
 use Rattle.acorn.specs.Runs.{TextRun}
 use Rattle.acorn.specs.Table.{firstStep, caAt, cbAt}
-use Rattle.acorn.specs.declared.stretch.Stretch.the-variants.{Data, Text}
+use Rattle.acorn.specs.declared.stretch.StretchName.the-variants.{Data, Text}
 use Rattle.acorn_model.proofs.Runs.{run-none, run-add, run-same}
 use Rattle.acorn_model.proofs.Bytes.{bytes-length, bytes-same, bytes-add}
 use Rattle.acorn_kernel.proofs.WordBits.{bit-xor}

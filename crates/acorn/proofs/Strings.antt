@@ -11,7 +11,8 @@ use lib.Seq.{paste, paste-zero, paste-suc}
 use lib.Bits.{bitOr, or-lt}
 use lib.Pow.{pow-mono, shl-lt, shl-exact}
 use Rattle.acorn_model.specs.Bits.{Bits, bit, bitsIn, number, bytes}
-use Rattle.acorn_model.proofs.Numbers.{lt-or-ge, bit-shift, number-of, number-same}
+use Rattle.acorn_model.proofs.Numbers.{bit-shift, number-of, number-same}
+use Rattle.calls.proofs.Choices.{lt-or-ge}
 use Rattle.acorn_model.proofs.Bytes.{bytes-length}
 use Rattle.acorn_kernel.proofs.WordBits.{bit-or, bit-above, or-false}
 use Rattle.acorn_kernel.proofs.ShiftedBits.{lifted, lifted-below, lifted-from}

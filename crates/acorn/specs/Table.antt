@@ -4,14 +4,14 @@ use mathlib.Core.Bool.{Bool, false}
 use mathlib.Core.List.{[]}
 use Prim.Native.Nat.{ℕ, _-_}
 use lib.Dec.{ltb}
-use Rattle.acorn_model.specs.Bits.{_if_else_}
+use Rattle.calls.specs.Calls.{_if_else_}
 use Rattle.acorn_model.specs.Stretches.{start, dataPiece, dataEnd, textPiece, textEnd, final}
 use Rattle.acorn_model.specs.Stretches as rows
-use Rattle.acorn.specs.declared.stretch.Stretch.{Stretch}
-use Rattle.acorn.specs.declared.stretch.Stretch.the-variants.{Start, Data, DataEnd, Text, TextEnd, Final}
+use Rattle.acorn.specs.declared.stretch.StretchName.{StretchName}
+use Rattle.acorn.specs.declared.stretch.StretchName.the-variants.{Start, Data, DataEnd, Text, TextEnd, Final}
 
 -- the stretch of step n; final has no end here
-unfoldable pub stretchAt : ℕ → Stretch
+unfoldable pub stretchAt : ℕ → StretchName
 stretchAt n =
     Start if ltb n 1792 else
     Data if ltb n 526080 else
@@ -21,7 +21,7 @@ stretchAt n =
     Final
 
 -- its first step, and its row in the table; the control bits of start do not go by key and nonce, nor those of data and text by the piece
-unfoldable pub firstStep : Stretch → ℕ
+unfoldable pub firstStep : StretchName → ℕ
 firstStep Start = 0
 firstStep Data = 1792
 firstStep DataEnd = 526080
@@ -29,7 +29,7 @@ firstStep Text = 526336
 firstStep TextEnd = 1050624
 firstStep Final = 1050880
 
-unfoldable pub rowOf : Stretch → rows.Stretch
+unfoldable pub rowOf : StretchName → rows.Stretch
 rowOf Start = start [] []
 rowOf Data = dataPiece []
 rowOf DataEnd = dataEnd
@@ -44,7 +44,7 @@ unfoldable pub cbAt : ℕ → Bool
 cbAt n = rowOf (stretchAt n) .cb
 
 -- the stretch and the control bits that step n has
-pub record ControlsAt (n : ℕ) (stretch : Stretch) (ca cb : Bool) : Type 0 where
+pub record ControlsAt (n : ℕ) (stretch : StretchName) (ca cb : Bool) : Type 0 where
   pub stretchIs : stretch ≡ stretchAt n
   pub caIs : ca ≡ caAt n
   pub cbIs : cb ≡ cbAt n

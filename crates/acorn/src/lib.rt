@@ -6,6 +6,9 @@ pub use acorn_kernel::State;
 use acorn_kernel::together_rest;
 use acorn_kernel::together_word;
 pub use acorn_kernel::zeros;
+use acorn_model::KEY_LENGTH;
+use acorn_model::NONCE_LENGTH;
+use acorn_model::START_STEPS;
 use bytes::load_rest;
 use bytes::load_word;
 use bytes::store_rest;
@@ -25,6 +28,9 @@ ghost use mathlib.Core.Bool.{false, true};
 ghost use Rattle.acorn_model.specs.Stretches.{through, dataPiece, dataEnd, textPiece, textEnd, tagOf};
 ghost use Rattle.acorn_kernel.specs.Together.{stateOf};
 ghost use Rattle.acorn.specs.Runs.{TextRun, startState, tagOutput};
+
+// The bytes of the paper's tag.
+const TAG_BYTES: usize = 16;
 
 // Each run over a piece goes 32 steps at a time while as many are left, and then takes the rest at once. All steps of data have the control
 // bits of its first, and those of text too.
@@ -180,10 +186,10 @@ pub fn start(key: &[u8], nonce: &[u8]) -> State
     ensures { λ r. ⌜ stateOf r ≡ startState (now (key .entry)) (now (nonce .entry)) ⌝ }
 {
     let mut t = zeros();
-    if key.len() != 16 {
+    if key.len() != KEY_LENGTH {
         return t;
     }
-    if nonce.len() != 16 {
+    if nonce.len() != NONCE_LENGTH {
         return t;
     }
     let mut n: u64 = 0;
@@ -207,7 +213,7 @@ pub fn start(key: &[u8], nonce: &[u8]) -> State
         t = next;
         n += 32;
     }
-    while n < 1792 {
+    while n < START_STEPS {
         let x = key_again(key, n);
         let c = controls_at(n);
         let ca = c.ca;
@@ -262,7 +268,7 @@ pub fn end_text(s: State) -> State
 pub fn write_tag(s: State, out: &mut [u8])
     ensures { λ _. ⌜ now (out .exit) ≡ tagOutput (stateOf s) (now (out .entry)) ⌝ }
 {
-    if out.len() < 16 {
+    if out.len() < TAG_BYTES {
         return;
     }
     let mut t = s;
@@ -278,7 +284,7 @@ pub fn write_tag(s: State, out: &mut [u8])
         n += 32;
     }
     let mut i = 0;
-    while i < 16 {
+    while i < TAG_BYTES {
         let c = controls_at(FINAL + n);
         let ca = c.ca;
         let cb = c.cb;

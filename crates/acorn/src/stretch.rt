@@ -10,7 +10,7 @@ ghost use Rattle.acorn_model.specs.Bits.{bit};
 ghost use Rattle.acorn_model.specs.Stretches.{startBit};
 ghost use Rattle.acorn.specs.Table.{caAt, cbAt, ControlsAt};
 
-pub enum Stretch {
+pub enum StretchName {
     Start,
     Data,
     DataEnd,
@@ -32,12 +32,12 @@ pub const TEXT_END: u64 = 1050624;
 pub const FINAL: u64 = 1050880;
 
 pub struct Controls {
-    pub stretch: Stretch,
+    pub stretch: StretchName,
     pub ca: bool,
     pub cb: bool,
 }
 
-fn row(stretch: Stretch, ca: bool, cb: bool) -> Controls
+fn row(stretch: StretchName, ca: bool, cb: bool) -> Controls
     ensures { λ r. ⌜ (r .stretch ≡ stretch) × (r .ca ≡ ca) × (r .cb ≡ cb) ⌝ }
 {
     Controls { stretch, ca, cb }
@@ -48,14 +48,14 @@ pub fn controls_at(step: u64) -> Controls
     ensures { λ r. ⌜ ControlsAt step (r .stretch) (r .ca) (r .cb) ⌝ }
 {
     match step {
-        0..=1791 => row(Stretch::Start, true, true),
-        1792..=526079 => row(Stretch::Data, true, true),
-        526080..=526207 => row(Stretch::DataEnd, true, true),
-        526208..=526335 => row(Stretch::DataEnd, false, true),
-        526336..=1050623 => row(Stretch::Text, true, false),
-        1050624..=1050751 => row(Stretch::TextEnd, true, false),
-        1050752..=1050879 => row(Stretch::TextEnd, false, false),
-        _ => row(Stretch::Final, true, true),
+        0..=1791 => row(StretchName::Start, true, true),
+        1792..=526079 => row(StretchName::Data, true, true),
+        526080..=526207 => row(StretchName::DataEnd, true, true),
+        526208..=526335 => row(StretchName::DataEnd, false, true),
+        526336..=1050623 => row(StretchName::Text, true, false),
+        1050624..=1050751 => row(StretchName::TextEnd, true, false),
+        1050752..=1050879 => row(StretchName::TextEnd, false, false),
+        _ => row(StretchName::Final, true, true),
     }
 }
 

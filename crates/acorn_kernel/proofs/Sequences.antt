@@ -7,7 +7,7 @@ use native.Mathlib.Omega.{arith}
 use borrow.Author.Tests.{lt-ltb, le-ltb}
 use Rattle.acorn_model.specs.Bits.{Bits}
 use Rattle.acorn_kernel.specs.Together.{_bits_then_}
-use Rattle.acorn_model.proofs.Numbers.{lt-or-ge}
+use Rattle.calls.proofs.Choices.{lt-or-ge}
 
 pub then-low : (n : ℕ) (a b : Bits) (p : ℕ) → p < n → (n bits a then b) p ≡ a p
 unfolding _bits_then_

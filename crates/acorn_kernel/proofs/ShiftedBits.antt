@@ -7,7 +7,8 @@ use native.Mathlib.Omega.{arith}
 use lib.Bits.{bitOr, bitXor}
 use Rattle.acorn_model.specs.Bits.{Bits, _⊕_, bit}
 use Rattle.acorn_kernel.specs.Together.{_bits_then_}
-use Rattle.acorn_model.proofs.Numbers.{lt-or-ge, bit-shift, bit-mod}
+use Rattle.acorn_model.proofs.Numbers.{bit-shift, bit-mod}
+use Rattle.calls.proofs.Choices.{lt-or-ge}
 use Rattle.acorn_kernel.proofs.Sequences.{then-low, then-high, then-split}
 use Rattle.acorn_kernel.proofs.WordBits.{bit-xor, bit-or, bit-shl-low, bit-shl-high, bit-mod-above, bit-above, xor-false, or-false}
 

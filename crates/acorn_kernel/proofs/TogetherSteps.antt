@@ -9,7 +9,8 @@ use Rattle.acorn_model.specs.Bits.{Bits, _⊕_, bit}
 use Rattle.acorn_model.specs.Step.{_⊕=_and_, lfsrUpdate, keystreamBit, feedbackBit, StepInput, run}
 use Rattle.acorn_kernel.specs.Together.{_bits_then_, stateOf, movedDown, inputsFrom, Together}
 use Rattle.acorn_kernel.specs.declared.State.{State}
-use Rattle.acorn_model.proofs.Numbers.{lt-or-ge, bit-shift}
+use Rattle.acorn_model.proofs.Numbers.{bit-shift}
+use Rattle.calls.proofs.Choices.{lt-or-ge}
 use Rattle.acorn_kernel.proofs.Sequences.{then-same}
 use Rattle.acorn_kernel.proofs.ClosedForm.{entering, reaching289, leaving289, closed, ks-closed, run-above}
 use Rattle.acorn_kernel.proofs.WordBits.{bit-xor, bit-and}

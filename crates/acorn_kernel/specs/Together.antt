@@ -3,7 +3,8 @@ use mathlib.Core.Path.{_≡_}
 use mathlib.Core.Bool.{Bool, _&&_}
 use Prim.Native.Nat.{ℕ, _+_, _-_, _/_, _^_, _<_}
 use lib.Dec.{ltb}
-use Rattle.acorn_model.specs.Bits.{Bits, _⊕_, _if_else_, bit}
+use Rattle.acorn_model.specs.Bits.{Bits, _⊕_, bit}
+use Rattle.calls.specs.Calls.{_if_else_}
 use Rattle.acorn_model.specs.Step.{StepInput, run, keystreamBit}
 use Rattle.acorn_model.specs.Stretches.{zeros}
 use Rattle.acorn_kernel.specs.declared.State.{State}

@@ -7,8 +7,10 @@ use native.Mathlib.Nat.{mod-eq-of-lt}
 use native.Mathlib.Omega.{arith}
 use lib.ListN.{length, getD, take, List·getD-append}
 use lib.Seq.{getD-append-add}
-use Rattle.acorn_model.specs.Bits.{Bits, AreBytes, bit, bitsIn, number, bytes}
-use Rattle.acorn_model.proofs.Numbers.{lt-or-ge, number-of, number-same, number-bit, number-lt}
+use Rattle.acorn_model.specs.Bits.{Bits, bit, bitsIn, number, bytes}
+use Rattle.calls.specs.Calls.{AreBytes}
+use Rattle.acorn_model.proofs.Numbers.{number-of, number-same, number-bit, number-lt}
+use Rattle.calls.proofs.Choices.{lt-or-ge}
 
 -- ## The bits of a string
 
@@ -62,17 +64,6 @@ unfolding bytes
 bytes-are-bytes zero b p = omega arith
 bytes-are-bytes (suc n) b zero = number-lt 8 b
 bytes-are-bytes (suc n) b (suc p) = bytes-are-bytes n (λ i. b (8 + i)) p
-
-pub append-are-bytes : (l k : List ℕ) → AreBytes l → AreBytes k → AreBytes (l ++ k)
-append-are-bytes [] k h g p = g p
-append-are-bytes (x ∷ l) k h g zero = h 0
-append-are-bytes (x ∷ l) k h g (suc p) = append-are-bytes l k (λ q. h (suc q)) g p
-
-pub take-are-bytes : (n : ℕ) (l : List ℕ) → AreBytes l → AreBytes (take n l)
-take-are-bytes zero l h p = omega arith
-take-are-bytes (suc n) [] h p = omega arith
-take-are-bytes (suc n) (x ∷ l) h zero = h 0
-take-are-bytes (suc n) (x ∷ l) h (suc p) = take-are-bytes n l (λ q. h (suc q)) p
 
 -- ## Bits of bytes, and bytes of bits
 

@@ -7,7 +7,8 @@ use mathlib.Core.Logic.{_↔_}
 use Prim.Native.Nat.{ℕ, _*_, _≤_, _<_}
 use native.Mathlib.Omega.{arith}
 use lib.ListN.{length}
-use Rattle.acorn_model.specs.Bits.{Bits, AreBytes, _⊕_, bitsIn, bytes}
+use Rattle.acorn_model.specs.Bits.{Bits, _⊕_, bitsIn, bytes}
+use Rattle.calls.specs.Calls.{AreBytes}
 use Rattle.acorn_model.specs.Step.{step, run, keystreamBit}
 use Rattle.acorn_model.specs.Stretches.{textPiece, textEnd, inputs, through, keystream, textOut, tagOf, afterData}
 use Rattle.acorn_model.specs.Paper.{ciphertext, tag, decrypted, newTag, Opens}

@@ -1,4 +1,3 @@
-pub mod Choices
 pub mod Refusals
 pub mod Numbers
 pub mod Bytes
@@ -12,8 +11,6 @@ pub mod Agree
 pub mod Pieces
 pub mod Inverse
 pub mod Relation
-pub mod SameBytes
 pub mod Whole
-pub mod Writing
 pub mod Messages
 pub mod Proved

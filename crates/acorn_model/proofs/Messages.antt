@@ -9,15 +9,15 @@ use lib.Dec.{ltb}
 use lib.ListN.{length, take}
 use lib.Seq.{take-at, length-take-le}
 use borrow.Author.Tests.{eq-eqb, eqb-true, le-ltb, lt-ltb, ltb-false, not-false}
-use Rattle.acorn_model.specs.Bits.{AreBytes, _if_else_}
-use Rattle.acorn_model.specs.Stretches.{tagLength}
-use Rattle.acorn_model.specs.Calls.{Reply, refused, done, unlessRefused, writtenOver}
-use Rattle.acorn_model.specs.Machine.{byteLimit}
-use Rattle.acorn_model.specs.Message.{Result, resultOf, cipherPart, sizesWrong, sealed, sealRefusal, sealMessage, tagMatches, opened, tagRefusal, openRefusal, openMessage}
+use Rattle.calls.specs.Calls.{AreBytes}
+use Rattle.calls.specs.Calls.{_if_else_, Reply, refused, done, unlessRefused, writtenOver, Result, resultOf}
+use Rattle.acorn_model.specs.Machine.{tagLength, byteLimit}
+use Rattle.acorn_model.specs.Message.{cipherPart, sizesWrong, sealed, sealRefusal, sealMessage, tagMatches, opened, tagRefusal, openRefusal, openMessage}
 use Rattle.acorn_model.specs.Laws.{WithinLimits}
-use Rattle.acorn_model.proofs.Choices.{both, neither}
+use Rattle.calls.proofs.Choices.{both, neither}
 use Rattle.acorn_model.proofs.Outputs.{decrypted-length, sealed-length, sealed-are-bytes}
 use Rattle.acorn_model.proofs.Whole.{opened-exactly}
+use Rattle.calls.proofs.Results.{result-written, done-told, unwritten}
 
 -- ## Numbers
 
@@ -29,37 +29,7 @@ passed false true c n m h2 h5 h6 e = absurd (h5 (sym e))
 passed false false true n m h2 h5 h6 e = absurd (h6 (sym e))
 passed false false false n m h2 h5 h6 e = (refl, refl, refl, e)
 
--- ## Results
-
-pub result-written : (n a : ℕ) (written out : List ℕ) → n ≡ 0 → resultOf n a written out ≡ record { answer = done a; out = writtenOver written out }
-unfolding resultOf unlessRefused
-result-written n a written out e = rw e
-
-pub result-refused : (n a : ℕ) (written out : List ℕ) → (n ≡ 0 → ⊥) → resultOf n a written out ≡ record { answer = refused n; out = out }
-unfolding resultOf unlessRefused
-result-refused zero a written out h = absurd (h refl)
-result-refused (suc n) a written out h = refl
-
-pub done-told : {A : Type 0} (n : ℕ) (a : A) (written out : List ℕ) (m : A) (after : List ℕ) → resultOf n a written out ≡ record { answer = done m; out = after }
-    → (n ≡ 0) × (a ≡ m) × (writtenOver written out ≡ after)
-unfolding resultOf unlessRefused
-done-told {A} zero a written out m after e = let f = ap (λ (r : Result A). r .answer) e in (refl, cc, ap (λ (r : Result A). r .out) e)
-done-told {A} (suc n) a written out m after e =
-    let f = ap (λ (r : Result A). r .answer) e in
-    let z : _≡_ {A = ℕ} 0 1 = cc in absurd (omega arith)
-
-pub refused-told : {A : Type 0} (n : ℕ) (a : A) (written out : List ℕ) (m : ℕ) (after : List ℕ) → resultOf n a written out ≡ record { answer = refused m; out = after }
-    → (n ≡ m) × (n ≡ 0 → ⊥)
-unfolding resultOf unlessRefused
-refused-told {A} zero a written out m after e =
-    let f = ap (λ (r : Result A). r .answer) e in
-    let z : _≡_ {A = ℕ} 0 1 = cc in absurd (omega arith)
-refused-told {A} (suc n) a written out m after e = let f = ap (λ (r : Result A). r .answer) e in (cc, λ z. omega arith)
-
-unwritten : (n a : ℕ) (written out : List ℕ) (m : ℕ) → resultOf n a written out .answer ≡ refused m → resultOf n a written out .out ≡ out
-unfolding resultOf unlessRefused
-unwritten zero a written out m e = let z : _≡_ {A = ℕ} 0 1 = cc in absurd (omega arith)
-unwritten (suc n) a written out m e = refl
+-- ## Outputs
 
 written-same : (l k out : List ℕ) → length l ≡ length k → writtenOver l out ≡ writtenOver k out → l ≡ k
 unfolding writtenOver

@@ -8,12 +8,8 @@ use native.Mathlib.Omega.{arith}
 use lib.Arith.{mod-mul}
 use lib.Pow.{shr-shr, pow-pos, field, mod-mod-pow}
 use lib.Dec.{eqb}
-use Rattle.acorn_model.specs.Bits.{Bits, _if_else_, bit, number}
-
-pub lt-or-ge : (a b : ℕ) → (a < b) ⊎ (b ≤ a)
-lt-or-ge a zero = inr zero-le
-lt-or-ge zero (suc b) = inl (suc-le-suc zero-le)
-lt-or-ge (suc a) (suc b) = ⊎-elim (λ p. inl (suc-le-suc p)) (λ q. inr (suc-le-suc q)) (lt-or-ge a b)
+use Rattle.acorn_model.specs.Bits.{Bits, bit, number}
+use Rattle.calls.specs.Calls.{_if_else_}
 
 -- ## One bit
 

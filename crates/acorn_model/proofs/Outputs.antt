@@ -5,11 +5,14 @@ use mathlib.Core.List.{List}
 use Prim.Native.Nat.{ℕ, _+_}
 use native.Mathlib.Omega.{arith}
 use lib.ListN.{length, length-append}
-use Rattle.acorn_model.specs.Bits.{Bits, AreBytes}
-use Rattle.acorn_model.specs.Stretches.{tagLength, textOut, tagOf}
+use Rattle.acorn_model.specs.Bits.{Bits}
+use Rattle.calls.specs.Calls.{AreBytes}
+use Rattle.acorn_model.specs.Stretches.{tagBytes, textOut, tagOf}
 use Rattle.acorn_model.specs.Paper.{ciphertext, tag, decrypted, newTag}
+use Rattle.acorn_model.specs.Machine.{tagLength}
 use Rattle.acorn_model.specs.Message.{sealed}
-use Rattle.acorn_model.proofs.Bytes.{bytes-length, bytes-are-bytes, append-are-bytes}
+use Rattle.acorn_model.proofs.Bytes.{bytes-length, bytes-are-bytes}
+use Rattle.calls.proofs.AreBytes.{append-are-bytes}
 
 -- ## The stretches
 
@@ -17,9 +20,9 @@ pub textOut-length : (opening : Bool) (piece : List ℕ) (S : Bits) → length (
 unfolding textOut
 textOut-length opening piece S = bytes-length (length piece) _
 
-pub tagOf-length : (S : Bits) → length (tagOf S) ≡ tagLength
+pub tagOf-length : (S : Bits) → length (tagOf S) ≡ tagBytes
 unfolding tagOf
-tagOf-length S = bytes-length tagLength _
+tagOf-length S = bytes-length tagBytes _
 
 -- ## The paper
 
@@ -36,17 +39,17 @@ module _ (key nonce «data» : List ℕ) where
   unfolding decrypted
   decrypted-length cipher = bytes-length (length cipher) _
 
-  pub tag-length : (text : List ℕ) → length (tag key nonce «data» text) ≡ tagLength
+  pub tag-length : (text : List ℕ) → length (tag key nonce «data» text) ≡ tagBytes
   unfolding tag
-  tag-length text = bytes-length tagLength _
+  tag-length text = bytes-length tagBytes _
 
   pub tag-are-bytes : (text : List ℕ) → AreBytes (tag key nonce «data» text)
   unfolding tag
-  tag-are-bytes text = bytes-are-bytes tagLength _
+  tag-are-bytes text = bytes-are-bytes tagBytes _
 
-  pub newTag-length : (cipher : List ℕ) → length (newTag key nonce «data» cipher) ≡ tagLength
+  pub newTag-length : (cipher : List ℕ) → length (newTag key nonce «data» cipher) ≡ tagBytes
   unfolding newTag
-  newTag-length cipher = bytes-length tagLength _
+  newTag-length cipher = bytes-length tagBytes _
 
   -- ## Sealed bytes
 

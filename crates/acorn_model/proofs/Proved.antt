@@ -5,7 +5,7 @@ use mathlib.Core.List.{List}
 use Prim.Native.Nat.{ℕ}
 use Rattle.acorn_model.specs.Stretches.{joined}
 use Rattle.acorn_model.specs.Paper.{ciphertext, tag, decrypted, newTag}
-use Rattle.acorn_model.specs.Calls.{unlessRefused, refusedWith}
+use Rattle.calls.specs.Calls.{unlessRefused, refusedWith}
 use Rattle.acorn_model.specs.Machine.{Machine, Call, begin, dataCall, sealText, checkText, sealClose, checkClose, outputOf, call}
 use Rattle.acorn_model.specs.Laws.{PaperComputed, OpeningExact, StretchesAgree, MessageLaws, SentBack, SentBackLaws}
 use Rattle.acorn_model.proofs.Agree.{ciphertext-agrees, tag-agrees, decrypted-agrees, newTag-agrees}

@@ -6,8 +6,8 @@ use lib.Dec.{eqb}
 use borrow.Author.Tests.{eqb-true}
 use Rattle.acorn_model.specs.Machine.{phaseAllows, sizesRight, overLimit, outputShort, refusal}
 use Rattle.acorn_model.specs.Message.{sealRefusal, openRefusal}
-use Rattle.acorn_model.specs.RefusalCases.{string, machineWith, RefusalCase, calls, seals, opens, Gets, AllGet, refusalCases}
-use Rattle.acorn_model.proofs.Choices.{both}
+use Rattle.acorn_model.specs.RefusalCases.{string, machineWith, RefusalCase, calls, seals, opens, Gets, AllGet, cipherRefusalCases}
+use Rattle.calls.proofs.Choices.{both}
 
 abbrev gets : RefusalCase → Bool
 gets (calls kind phase dataBytes textBytes call number) = eqb (refusal (machineWith kind phase dataBytes textBytes) call) number
@@ -27,6 +27,6 @@ shown-all : (cs : List RefusalCase) → allGet cs ≡ true → AllGet cs
 shown-all [] h = tt
 shown-all (c ∷ cs) h = let p = both (gets c) (allGet cs) h in (shown c (p .0), shown-all cs (p .1))
 
-pub refusal-cases : AllGet refusalCases
+pub refusal-cases : AllGet cipherRefusalCases
 unfolding refusal phaseAllows sizesRight overLimit outputShort sealRefusal openRefusal
-refusal-cases = shown-all refusalCases refl
+refusal-cases = shown-all cipherRefusalCases refl

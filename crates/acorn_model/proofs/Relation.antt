@@ -6,9 +6,10 @@ use mathlib.Core.List.{List}
 use Prim.Native.Nat.{ℕ, zero, suc, _+_, _-_, _*_, _≤_, _<_}
 use native.Mathlib.Omega.{arith}
 use lib.ListN.{length}
-use Rattle.acorn_model.specs.Bits.{Bits, AreBytes, _⊕_, bitsIn, bytes}
+use Rattle.acorn_model.specs.Bits.{Bits, _⊕_, bitsIn, bytes}
+use Rattle.calls.specs.Calls.{AreBytes}
 use Rattle.acorn_model.specs.Step.{lfsrUpdate, fbk128, keystreamBit, feedbackBit, step, StepInput, run}
-use Rattle.acorn_model.specs.Stretches.{tagLength, tagBits, zeros}
+use Rattle.acorn_model.specs.Stretches.{tagBytes, tagBits, zeros}
 use Rattle.acorn_model.specs.Paper.{mAt, caAt, cbAt, inputAt, stateAt, ksAt, textBitOut, tagBit, ciphertext, tag, decrypted, newTag}
 use Rattle.acorn_model.specs.Laws.{SameState, ByPaper}
 use Rattle.acorn_model.proofs.Bytes.{bytes-length, bytes-same, bits-of-bytes, bytes-of-bits, bytes-are-bytes}
@@ -58,18 +59,18 @@ module _ (key nonce «data» : List ℕ) where
         bytes-same (length text) _ _ (λ j l. e .c-is j l ∙ ap₂ _⊕_ (p-is j l) (keystream-bits (1792 + (A + 256 + j)) (omega arith)))
         ∙ sym (text-of-run false key nonce «data» text g (λ ks. p) (λ ks. p-is) (λ ks. e .schedule)) ∙ ciphertext-agrees key nonce «data» text
 
-    only-tag : bytes tagLength T ≡ tag key nonce «data» text
+    only-tag : bytes tagBytes T ≡ tag key nonce «data» text
     only-tag =
-        bytes-same tagLength _ _ (λ j l. e .T-is j l ∙ keystream-bits (1792 + (A + P + 1279 - tagBits + 1 + j)) (omega arith))
+        bytes-same tagBytes _ _ (λ j l. e .T-is j l ∙ keystream-bits (1792 + (A + P + 1279 - tagBits + 1 + j)) (omega arith))
         ∙ sym (tag-of-run false key nonce «data» text g (λ ks. p) (λ ks. p-is) (λ ks. e .schedule)) ∙ tag-agrees key nonce «data» text
 
   pub sealing-only : (text : List ℕ) (c T : Bits) → ByPaper key nonce «data» (length text) (bitsIn text) c T
-      → (bytes (length text) c ≡ ciphertext key nonce «data» text) × (bytes tagLength T ≡ tag key nonce «data» text)
+      → (bytes (length text) c ≡ ciphertext key nonce «data» text) × (bytes tagBytes T ≡ tag key nonce «data» text)
   sealing-only text c T e = (only-ciphertext text (bitsIn text) c T (λ j l. refl) e, only-tag text (bitsIn text) c T (λ j l. refl) e)
 
   -- the plaintext's bytes are a text
   pub opening-only : (cipher : List ℕ) (p T : Bits) → AreBytes cipher → ByPaper key nonce «data» (length cipher) p (bitsIn cipher) T
-      → (bytes (length cipher) p ≡ decrypted key nonce «data» cipher) × (bytes tagLength T ≡ newTag key nonce «data» cipher)
+      → (bytes (length cipher) p ≡ decrypted key nonce «data» cipher) × (bytes tagBytes T ≡ newTag key nonce «data» cipher)
   opening-only cipher p T h e = (
     sym (ap (decrypted key nonce «data») is-ciphertext ∙ decrypted-ciphertext key nonce «data» text (bytes-are-bytes (length cipher) p)),
     only-tag text p (bitsIn cipher) T p-is e' ∙ sym (ap (newTag key nonce «data») is-ciphertext ∙ newTag-ciphertext key nonce «data» text),
@@ -107,7 +108,7 @@ module _ (key nonce «data» : List ℕ) where
         S-shifts = λ i r j k. ap (λ (R : Bits). R j) (run-next g i zeros) ∙ step-shifts _ _ _ (run g i zeros) j (omega arith) ∙ ap (lfsrUpdate (run g i zeros)) (omega arith);
         S-new = λ i r. ap (λ (R : Bits). R 292) (run-next g i zeros) ∙ step-new _ _ _ (run g i zeros);
         c-is = bits-of-bytes (length text) _;
-        T-is = bits-of-bytes tagLength _;
+        T-is = bits-of-bytes tagBytes _;
       }
     where
       g : ℕ → StepInput

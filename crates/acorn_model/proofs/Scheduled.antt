@@ -4,9 +4,10 @@ use mathlib.Core.Bool.{Bool, true, false}
 use Prim.Native.Nat.{ℕ, _+_, _-_, _≤_, _<_}
 use native.Mathlib.Omega.{arith}
 use lib.Dec.{eqb, ltb}
-use Rattle.acorn_model.specs.Bits.{Bits, _if_else_}
+use Rattle.acorn_model.specs.Bits.{Bits}
+use Rattle.calls.specs.Calls.{_if_else_}
 use Rattle.acorn_model.specs.Paper.{Schedule, mStart, mLater, caLater, cbLater, mAt, caAt, cbAt}
-use Rattle.acorn_model.proofs.Choices.{if-below, if-past, if-equal, if-unequal}
+use Rattle.calls.proofs.Choices.{if-below, if-past, if-equal, if-unequal}
 
 -- from the paper's step 0 on
 from-0 : (a b : Bits) (i : ℕ) {c : Bool} → b i ≡ c → (a (1792 + i) if ltb (1792 + i) 1792 else b (1792 + i - 1792)) ≡ c

@@ -6,12 +6,13 @@ use Prim.Native.Nat.{ℕ, zero, suc, _≤_, _<_}
 use native.Mathlib.Omega.{arith}
 use lib.Dec.{leb}
 use borrow.Author.Tests.{le-leb, leb-true}
-use Rattle.acorn_model.specs.Bits.{Bits, _⊕_, _if_else_}
+use Rattle.acorn_model.specs.Bits.{Bits, _⊕_}
+use Rattle.calls.specs.Calls.{_if_else_}
 use Rattle.acorn_model.specs.Step.{_⊕=_and_, lfsrUpdate, ksg128, fbk128, keystreamBit, feedbackBit, step, StepInput, stepOn, run}
 use Rattle.acorn_model.specs.Stretches.{Stretch, inputs, through, keystream, textPiece, textOut, final, tagOf}
 use Rattle.acorn_model.specs.Laws.{SameState, StateBits}
-use Rattle.acorn_model.proofs.Numbers.{lt-or-ge}
-use Rattle.acorn_model.proofs.Choices.{if-unequal}
+use Rattle.calls.proofs.Choices.{lt-or-ge}
+use Rattle.calls.proofs.Choices.{if-unequal}
 
 -- ## One step
 

@@ -5,7 +5,7 @@ use mathlib.Core.List.{List, [], _∷_}
 use Rattle.acorn_model.specs.Bits.{Bits}
 use Rattle.acorn_model.specs.Step.{_⊕=_and_, lfsrUpdate, maj, ch, ksg128, fbk128, keystreamBit, feedbackBit, step}
 use Rattle.acorn_model.specs.StepCases.{Control, set, either, Observation, ks, _is_, StepCase, stateWith, ForEach, Observed, StepHolds, AllSteps, furtherCases}
-use Rattle.acorn_model.proofs.Choices.{both}
+use Rattle.calls.proofs.Choices.{both}
 
 -- ## The test
 

@@ -7,13 +7,13 @@ use Prim.Native.Nat.{ℕ, _-_}
 use native.Mathlib.Omega.{arith}
 use lib.ListN.{length, length-append, take-append-drop}
 use lib.Seq.{take-at, drop-at}
-use Rattle.acorn_model.specs.Bits.{AreBytes}
-use Rattle.acorn_model.specs.Stretches.{tagLength}
+use Rattle.calls.specs.Calls.{AreBytes}
 use Rattle.acorn_model.specs.Paper.{ciphertext, tag, newTag, Opens}
+use Rattle.acorn_model.specs.Machine.{tagLength}
 use Rattle.acorn_model.specs.Message.{cipherPart, tagPart, sealed, tagMatches, opened}
-use Rattle.acorn_model.proofs.Bytes.{take-are-bytes}
+use Rattle.calls.proofs.AreBytes.{take-are-bytes}
 use Rattle.acorn_model.proofs.Outputs.{tag-length}
-use Rattle.acorn_model.proofs.SameBytes.{same-bytes-refl, same-bytes-true}
+use Rattle.calls.proofs.SameBytes.{same-bytes-refl, same-bytes-true}
 use Rattle.acorn_model.proofs.Inverse.{opens-exactly}
 
 module _ (key nonce «data» : List ℕ) where

@@ -1,12 +1,12 @@
 -- Document 01, "Bits of a byte": the bits of a byte string, and the bytes that bits make.
-use mathlib.Core.Bool.{Bool, true, false, not, cond}
+use mathlib.Core.Bool.{Bool, true, false, not}
 use mathlib.Core.List.{List, [], _∷_}
 use Prim.Native.Nat.{ℕ, zero, suc, _+_, _*_, _/_, _%_, _^_, _<_}
 use lib.Dec.{eqb}
 use lib.ListN.{getD}
+use Rattle.calls.specs.Calls.{_if_else_}
 
 infixl 40 _⊕_
-infixr 5 _if_else_
 -- bits by their number, from 0: those of a state, of a string, of a keystream
 abbrev pub Bits : Type 0
 Bits = ℕ → Bool
@@ -15,10 +15,6 @@ Bits = ℕ → Bool
 abbrev pub _⊕_ : Bool → Bool → Bool
 true ⊕ b = not b
 false ⊕ b = b
-
--- a where the test holds, else b
-abbrev pub _if_else_ : {A : Type 0} → A → Bool → A → A
-a if test else b = cond test a b
 
 -- the bit of weight 2 ^ j of a number
 unfoldable pub bit : ℕ → Bits
@@ -37,7 +33,3 @@ number (suc n) b = (1 if b 0 else 0) + 2 * number n (λ j. b (suc j))
 unfoldable pub bytes : ℕ → Bits → List ℕ
 bytes zero b = []
 bytes (suc n) b = number 8 b ∷ bytes n (λ i. b (8 + i))
-
--- a list of bytes
-abbrev pub AreBytes : List ℕ → Type 0
-AreBytes string = (p : ℕ) → getD string p 0 < 256

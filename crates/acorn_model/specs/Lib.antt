@@ -3,7 +3,6 @@ pub mod Step
 pub mod StepCases
 pub mod Stretches
 pub mod Paper
-pub mod Calls
 pub mod Machine
 pub mod Lists
 pub mod Message

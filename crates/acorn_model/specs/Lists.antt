@@ -3,12 +3,12 @@ use mathlib.Core.List.{List, [], _∷_, _++_}
 use mathlib.Core.Path.{_≡_}
 use Prim.Native.Nat.{ℕ}
 use lib.Dec.{eqb}
-use lib.ListN.{take}
 use Rattle.acorn_model.specs.declared.Kind.{Kind}
 use Rattle.acorn_model.specs.declared.Kind.the-variants.{Sealing, Checking}
 use Rattle.acorn_model.specs.declared.Phase.the-variants.{Closed}
-use Rattle.acorn_model.specs.Bits.{_if_else_}
-use Rattle.acorn_model.specs.Calls.{Reply, refused, done, Work, Entry}
+use Rattle.calls.specs.Calls.{_if_else_}
+use Rattle.calls.specs.Calls.{Reply, refused, done, Work}
+use Rattle.calls.specs.Lists.{Entry, ifAccepted, writtenBy}
 use Rattle.acorn_model.specs.Machine.{Machine, Call, begin, dataCall, sealText, checkText, sealClose, checkClose}
 
 -- ## What one call brings, by its arguments
@@ -53,20 +53,10 @@ tagsOf (checkClose tag) = tag ∷ []
 
 -- ## What of it counts, by the answer
 
--- of an accepted call
-abbrev pub ifAccepted : {A : Type 0} → Reply Work → List A → List A
-ifAccepted (refused n) l = []
-ifAccepted (done w) l = l
-
 -- of a call that was accepted, or that closed its session with 7
 abbrev pub ifAcceptedOr7 : {A : Type 0} → Reply Work → List A → List A
 ifAcceptedOr7 (refused n) l = l if eqb n 7 else []
 ifAcceptedOr7 (done w) l = l
-
--- the bytes that a call wrote, of its output after it
-abbrev pub writtenBy : Reply Work → List ℕ → List ℕ
-writtenBy (refused n) out = []
-writtenBy (done w) out = take (w .bytes) out
 
 -- good or 7: the answer of a checking close that closed its session
 unfoldable pub verdictOf : Call → Reply Work → List (Reply Work)
@@ -93,7 +83,7 @@ pub record Log : Type 0 where
 unfoldable pub nothing : Log
 nothing = record { begins = []; «data» = []; text = []; written = []; tags = []; verdicts = [] }
 
-unfoldable pub logged : Entry Call → Log
+unfoldable pub logged : Entry Call Work → Log
 logged e =
     record {
       begins = ifAccepted (e .answer) (beginOf (e .call));
@@ -115,7 +105,7 @@ joinLogs a b =
       verdicts = a .verdicts ++ b .verdicts;
     }
 
-unfoldable pub logOf : List (Entry Call) → Log
+unfoldable pub logOf : List (Entry Call Work) → Log
 logOf [] = nothing
 logOf (e ∷ es) = joinLogs (logged e) (logOf es)
 

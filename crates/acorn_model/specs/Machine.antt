@@ -9,9 +9,9 @@ use Rattle.acorn_model.specs.declared.Kind.{Kind}
 use Rattle.acorn_model.specs.declared.Kind.the-variants.{Sealing, Checking}
 use Rattle.acorn_model.specs.declared.Phase.{Phase}
 use Rattle.acorn_model.specs.declared.Phase.the-variants.{Fresh, Data, Text, Closed}
-use Rattle.acorn_model.specs.Bits.{Bits, _if_else_}
-use Rattle.acorn_model.specs.Stretches.{Stretch, through, zeros, start, dataPiece, dataEnd, textPiece, textEnd, final, textOut, tagOf, tagLength}
-use Rattle.acorn_model.specs.Calls.{Reply, refused, done, Work, accepted, unlessRefused, writtenOver, sameBytes, Outcome, refusedWith}
+use Rattle.acorn_model.specs.Bits.{Bits}
+use Rattle.calls.specs.Calls.{_if_else_, Reply, refused, done, Work, accepted, unlessRefused, writtenOver, sameBytes, Outcome, refusedWith}
+use Rattle.acorn_model.specs.Stretches.{Stretch, through, zeros, start, dataPiece, dataEnd, textPiece, textEnd, final, textOut, tagOf}
 
 -- ## What it holds
 
@@ -94,6 +94,10 @@ keyLength = 16
 
 abbrev pub nonceLength : ℕ
 nonceLength = 16
+
+-- the bytes of the tag that a close writes or is given
+abbrev pub tagLength : ℕ
+tagLength = 16
 
 abbrev pub keyAndNonceRight : List ℕ → List ℕ → Bool
 keyAndNonceRight key nonce = eqb (length key) keyLength && eqb (length nonce) nonceLength

@@ -4,20 +4,10 @@ use mathlib.Core.List.{List, _++_}
 use Prim.Native.Nat.{ℕ, _+_, _-_}
 use lib.Dec.{ltb}
 use lib.ListN.{length, take, drop}
-use Rattle.acorn_model.specs.Bits.{_if_else_}
-use Rattle.acorn_model.specs.Stretches.{tagLength}
+use Rattle.calls.specs.Calls.{_if_else_}
 use Rattle.acorn_model.specs.Paper.{ciphertext, tag, decrypted, newTag}
-use Rattle.acorn_model.specs.Calls.{Reply, refused, done, accepted, unlessRefused, writtenOver, sameBytes}
-use Rattle.acorn_model.specs.Machine.{keyAndNonceRight, byteLimit}
-
--- What a call that hands on no state comes to: its answer, and its output after it.
-pub record Result (A : Type 0) : Type 0 where
-  pub answer : Reply A
-  pub out : List ℕ
-
--- by the number that applies: these bytes are written, with this answer; or nothing is, and the number is the answer
-unfoldable pub resultOf : {A : Type 0} → ℕ → A → List ℕ → List ℕ → Result A
-resultOf n answer written out = unlessRefused n (record { answer = done answer; out = writtenOver written out }) (record { answer = refused n; out = out })
+use Rattle.calls.specs.Calls.{Result, resultOf, accepted, sameBytes}
+use Rattle.acorn_model.specs.Machine.{keyAndNonceRight, tagLength, byteLimit}
 
 -- of sealed bytes all are ciphertext but the tag's at the end
 abbrev pub cipherPart : List ℕ → List ℕ

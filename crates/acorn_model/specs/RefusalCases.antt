@@ -9,7 +9,7 @@ use Rattle.acorn_model.specs.declared.Kind.the-variants.{Sealing, Checki
 use Rattle.acorn_model.specs.declared.Phase.{Phase}
 use Rattle.acorn_model.specs.declared.Phase.the-variants.{Fresh, Data, Text, Closed}
 use Rattle.acorn_model.specs.Stretches.{zeros}
-use Rattle.acorn_model.specs.Calls.{accepted}
+use Rattle.calls.specs.Calls.{accepted}
 use Rattle.acorn_model.specs.Machine.{Machine, Call, begin, dataCall, sealText, checkText, sealClose, checkClose, refusal}
 use Rattle.acorn_model.specs.Message.{sealRefusal, openRefusal}
 
@@ -37,8 +37,8 @@ abbrev pub AllGet : List RefusalCase → Type 0
 AllGet [] = Unit {0}
 AllGet (c ∷ cs) = Gets c × AllGet cs
 
-abbrev pub refusalCases : List RefusalCase
-refusalCases =
+abbrev pub cipherRefusalCases : List RefusalCase
+cipherRefusalCases =
     -- 1: each call outside its phases, and of the other kind
     calls Sealing Data 0 0 (begin (string 16) (string 16)) 1
     ∷ calls Sealing Text 0 0 (begin (string 16) (string 16)) 1

@@ -2,7 +2,8 @@
 use mathlib.Core.Bool.{Bool, not, _&&_}
 use Prim.Native.Nat.{ℕ, zero, suc}
 use lib.Dec.{eqb}
-use Rattle.acorn_model.specs.Bits.{Bits, _⊕_, _if_else_}
+use Rattle.acorn_model.specs.Bits.{Bits, _⊕_}
+use Rattle.calls.specs.Calls.{_if_else_}
 
 infix 20 _⊕=_and_
 infixl 10 _then_

@@ -4,7 +4,8 @@ use mathlib.Core.List.{List, [], _∷_, _++_}
 use Prim.Native.Nat.{ℕ, _+_, _-_, _*_, _%_}
 use lib.Dec.{eqb, ltb}
 use lib.ListN.{length}
-use Rattle.acorn_model.specs.Bits.{Bits, _⊕_, _if_else_, bitsIn, bytes}
+use Rattle.acorn_model.specs.Bits.{Bits, _⊕_, bitsIn, bytes}
+use Rattle.calls.specs.Calls.{_if_else_}
 use Rattle.acorn_model.specs.Step.{StepInput, run, keystreamBit}
 
 -- A row of the table. The message bit of step i is a function of that step's ks, which only the text of an opening reads.
@@ -14,12 +15,12 @@ pub record Stretch : Type 0 where
   pub ca : ℕ → Bool
   pub cb : Bool
 
--- the tag's bytes, and its bits (the paper's t)
-abbrev pub tagLength : ℕ
-tagLength = 16
-
+-- the bits of the tag (the paper's t), and its bytes
 abbrev pub tagBits : ℕ
-tagBits = 8 * tagLength
+tagBits = 128
+
+abbrev pub tagBytes : ℕ
+tagBytes = 16
 
 -- ## The rows
 
@@ -69,7 +70,7 @@ textOut opening piece S = bytes (length piece) (λ j. bitsIn piece j ⊕ keystre
 
 -- the tag, of the state before final: the last ks bits
 unfoldable pub tagOf : Bits → List ℕ
-tagOf S = bytes tagLength (λ j. keystream final S (final .steps - tagBits + j))
+tagOf S = bytes tagBytes (λ j. keystream final S (final .steps - tagBits + j))
 
 -- ## A message
 

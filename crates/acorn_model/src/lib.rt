@@ -1,4 +1,4 @@
-// The types that code and specification share: the kinds and phases of a session, and the answers of calls.
+// What code and specification share: the kinds and phases of a session, and the lengths of its strings and stretches.
 pub enum Kind {
     Sealing,
     Checking,
@@ -11,14 +11,18 @@ pub enum Phase {
     Closed,
 }
 
-// The answer of a call that runs steps: a refusal number, or the bytes that the call wrote and the steps run since fresh.
-pub enum Answer {
-    Refused(u8),
-    Done(usize, u64),
-}
+// Bytes of a key, a nonce and a message's tag; the most bytes of data, and the most of text.
+pub const KEY_LENGTH: usize = 16;
 
-// The answer of a call that only writes: a refusal number, or the number of bytes written.
-pub enum Written {
-    Refused(u8),
-    Done(usize),
-}
+pub const NONCE_LENGTH: usize = 16;
+
+pub const TAG_LENGTH: usize = 16;
+
+pub const BYTE_LIMIT: usize = 65536;
+
+// Steps of start, of the data end, and of text end and final together.
+pub const START_STEPS: u64 = 1792;
+
+pub const DATA_END_STEPS: u64 = 256;
+
+pub const CLOSE_STEPS: u64 = 1024;

@@ -1,6 +1,6 @@
 // For the benchmark: 400 sealing sessions, each of 65,000 bytes of text in pieces of 13. Prints the steps of the last, and the first byte of its tag.
-use acorn_model::Answer;
 use acorn_model::Kind;
+use calls::Answer;
 use libc::STDOUT_FILENO;
 use session::Session;
 ghost use mathlib.Core.Path.{_≡_};

@@ -1,5 +1,5 @@
 // For the benchmark: 400 tapes of 5,000 tickets, written add by add. Prints the steps of the last, and the first byte of its tag.
-use acorn_model::Answer;
+use calls::Answer;
 use libc::STDOUT_FILENO;
 use tape::Writer;
 use tape_model::Head;

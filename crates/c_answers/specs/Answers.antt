@@ -1,8 +1,6 @@
 -- What a C caller is told: each answer of the library as a struct of numbers.
-use mathlib.Core.Bool.{Bool, false, not}
 use Prim.Native.Nat.{ℕ}
-use lib.Dec.{eqb}
-use Rattle.acorn_model.specs.Calls.{Reply, refused, done, Work}
+use Rattle.calls.specs.Calls.{Reply, refused, done, Work}
 use Rattle.tape_model.specs.declared.Ticket.{Ticket}
 use Rattle.tape_model.specs.declared.Head.{Head}
 use Rattle.tape_model.specs.Tape.{Totals}
@@ -48,8 +46,3 @@ unfoldable pub readingNumbers : Reply Reading → ℕ → HtReading
 readingNumbers (refused n) position = record { refused = n; «at_end» = 0; position = position; ticket = noTicket }
 readingNumbers (done atEnd) position = record { refused = 0; «at_end» = 1; position = position; ticket = noTicket }
 readingNumbers (done (ticket t)) position = record { refused = 0; «at_end» = 0; position = position; ticket = t }
-
--- whether a call was sent back, and so changed nothing: a wrong tag (7) closes
-unfoldable pub sentBack : Reply Work → Bool
-sentBack (refused n) = not (eqb n 7)
-sentBack (done work) = false

@@ -1,7 +1,7 @@
 // Answers as structs of numbers, for C: `refused` is 0 where the call was done; else it is the number, and the rest is zeros, but that a
 // reading's position stays.
-use acorn_model::Answer;
-use acorn_model::Written;
+use calls::Answer;
+use calls::Written;
 use reader::ReadAt;
 use tape_model::Head;
 use tape_model::NextTicket;
@@ -10,11 +10,11 @@ use tape_model::Ticket;
 use tape_model::UnpackedHead;
 use tape_model::UnpackedTicket;
 ghost use mathlib.Core.Path.{_≡_};
-ghost use Rattle.acorn_model.specs.Calls.{answerReply, writtenReply};
+ghost use Rattle.calls.specs.Calls.{answerReply, writtenReply, sentBack};
 ghost use Rattle.tape_model.specs.Ticket.{ticketReply, headReply};
 ghost use Rattle.tape_model.specs.Tape.{openedReply};
 ghost use Rattle.tape_model.specs.Reader.{nextReply};
-ghost use Rattle.c_answers.specs.Answers.{writtenNumbers, answerNumbers, sentBack, openedNumbers, noTicket, noHead, ticketNumbers, headNumbers, readingNumbers};
+ghost use Rattle.c_answers.specs.Answers.{writtenNumbers, answerNumbers, openedNumbers, noTicket, noHead, ticketNumbers, headNumbers, readingNumbers};
 
 #[repr(C)]
 pub struct HtWritten {

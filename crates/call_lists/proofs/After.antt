@@ -2,13 +2,15 @@
 use mathlib.Core.Path.{_≡_, refl, _∙_}
 use mathlib.Core.List.{List}
 use Rattle.acorn_model.specs.declared.Kind.{Kind}
-use Rattle.acorn_model.specs.Calls.{Work, Outcome, refusedWith, Entry}
+use Rattle.calls.specs.Calls.{Work, Outcome, refusedWith}
+use Rattle.calls.specs.Lists.{Entry}
 use Rattle.acorn_model.specs.Machine.{Machine, fresh, Call, begin, dataCall, sealText, checkText, sealClose, checkClose, outputOf, refusal}
 use Rattle.acorn_model.specs.Machine.{runThrough, enter, cleared, countData, countText, begun, dataTaken, textTaken, textEnded, closed, wrote, work, call}
 use Rattle.acorn_model.specs.Lists.{Log, logged, joinLogs, logOf}
 use Rattle.call_lists.specs.MachineLists.{machineAfter, logFrom}
-use Rattle.acorn_model.proofs.Refusals.{by-number, passed, never-7}
-use Rattle.call_lists.proofs.Lists.{entryOf, kept-by-list}
+use Rattle.acorn_model.proofs.Refusals.{passed, never-7}
+use Rattle.calls.proofs.Refusals.{by-number}
+use Rattle.calls.proofs.Lists.{entryOf, kept-by-list}
 use Rattle.call_lists.proofs.Logs.{followed-by-nothing, log-last, refused-adds, work-adds}
 use Rattle.call_lists.proofs.Reached.{Reached, fresh-reached}
 use Rattle.call_lists.proofs.Kept.{ended-kind, work-kept}
@@ -44,10 +46,10 @@ module _ (kind : Kind) (calls : List Call) where
   pub reached-after : Reached (machineAfter kind calls) (logFrom kind calls)
   unfolding logOf
   reached-after =
-      kept-by-list call (λ (m : Machine) (es : List (Entry Call)). Reached m (logOf es))
+      kept-by-list call (λ (m : Machine) (es : List (Entry Call Work)). Reached m (logOf es))
       (λ m c es r. rw (log-last es (entryOf call m c)) (call-kept m c (logOf es) r)) (fresh kind) calls (fresh-reached kind)
 
   pub kind-after : machineAfter kind calls .kind ≡ kind
   kind-after =
-      kept-by-list call (λ (m : Machine) (es : List (Entry Call)). m .kind ≡ kind)
+      kept-by-list call (λ (m : Machine) (es : List (Entry Call Work)). m .kind ≡ kind)
       (λ m c es k. call-kind m c ∙ k) (fresh kind) calls (unfold fresh in refl)

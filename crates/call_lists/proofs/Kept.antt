@@ -11,9 +11,9 @@ use Rattle.acorn_model.specs.declared.Kind.{Kind}
 use Rattle.acorn_model.specs.declared.Kind.the-variants.{Sealing, Checking}
 use Rattle.acorn_model.specs.declared.Phase.{Phase}
 use Rattle.acorn_model.specs.declared.Phase.the-variants.{Fresh, Data, Text, Closed}
-use Rattle.acorn_model.specs.Bits.{Bits, _if_else_}
+use Rattle.acorn_model.specs.Bits.{Bits}
+use Rattle.calls.specs.Calls.{_if_else_, Reply, Work}
 use Rattle.acorn_model.specs.Stretches.{through, dataPiece, dataEnd, textPiece, textEnd, final, tagOf}
-use Rattle.acorn_model.specs.Calls.{Reply, Work}
 use Rattle.acorn_model.specs.Machine.{Counts, Machine, Call, begin, dataCall, sealText, checkText, sealClose, checkClose}
 use Rattle.acorn_model.specs.Machine.{isSealing, isChecking, isFresh, isData, isText, phaseAllows, byteLimit, overLimit}
 use Rattle.acorn_model.specs.Machine.{runThrough, enter, cleared, countData, countText, begun, dataTaken, dataEnded, textTaken, textEnded, closed, wrote, work}

@@ -1,4 +1,3 @@
-pub mod Lists
 pub mod Logs
 pub mod ByKind
 pub mod Reached

@@ -7,9 +7,9 @@ use lib.Dec.{eqb}
 use lib.ListN.{length, take}
 use lib.Seq.{take-append-seam}
 use borrow.Author.Tests.{ne-eqb}
-use Rattle.acorn_model.specs.Bits.{_if_else_}
+use Rattle.calls.specs.Calls.{_if_else_, Reply, refused, done, Work, writtenOver, sameBytes}
 use Rattle.acorn_model.specs.Stretches.{textOut, tagOf}
-use Rattle.acorn_model.specs.Calls.{Reply, refused, done, Work, writtenOver, sameBytes, Entry}
+use Rattle.calls.specs.Lists.{Entry}
 use Rattle.acorn_model.specs.Machine.{Machine, Call, begin, dataCall, sealText, checkText, sealClose, checkClose, dataEnded, textEnded, closed, answered, wrote, verdict, work}
 use Rattle.acorn_model.specs.Lists.{beginOf, dataOf, textOf, tagsOf, verdictOf, Log, nothing, logged, joinLogs, logOf}
 
@@ -23,12 +23,12 @@ followed-assoc : (a b c : Log) → joinLogs (joinLogs a b) c ≡ joinLogs a (joi
 unfolding joinLogs
 followed-assoc a b c = simp append-assoc
 
-pub log-append : (es fs : List (Entry Call)) → logOf (es ++ fs) ≡ joinLogs (logOf es) (logOf fs)
+pub log-append : (es fs : List (Entry Call Work)) → logOf (es ++ fs) ≡ joinLogs (logOf es) (logOf fs)
 unfolding logOf
 log-append [] fs = unfold joinLogs nothing in refl
 log-append (e ∷ es) fs = ap (joinLogs (logged e)) (log-append es fs) ∙ sym (followed-assoc (logged e) (logOf es) (logOf fs))
 
-pub log-last : (es : List (Entry Call)) (e : Entry Call) → logOf (es ++ (e ∷ [])) ≡ joinLogs (logOf es) (logged e)
+pub log-last : (es : List (Entry Call Work)) (e : Entry Call Work) → logOf (es ++ (e ∷ [])) ≡ joinLogs (logOf es) (logged e)
 unfolding logOf
 log-last es e = log-append es (e ∷ []) ∙ ap (joinLogs (logOf es)) (followed-by-nothing (logged e))
 

@@ -9,20 +9,20 @@ use Rattle.acorn_model.specs.declared.Kind.{Kind}
 use Rattle.acorn_model.specs.declared.Kind.the-variants.{Sealing, Checking}
 use Rattle.acorn_model.specs.declared.Phase.{Phase}
 use Rattle.acorn_model.specs.declared.Phase.the-variants.{Closed}
-use Rattle.acorn_model.specs.Calls.{Reply, refused, done, Work, sameBytes}
+use Rattle.calls.specs.Calls.{Reply, refused, done, Work, sameBytes}
 use Rattle.acorn_model.specs.Machine.{Call}
 use Rattle.acorn_model.specs.Lists.{Arguments, Log, SameTags, Alike}
-use Rattle.acorn_model.proofs.SameBytes.{same-bytes-refl, same-bytes-true}
+use Rattle.calls.proofs.SameBytes.{same-bytes-refl, same-bytes-true}
 use Rattle.call_lists.specs.MachineLists.{machineAfter, logFrom, endedSteps, MachineLists}
 use Rattle.call_lists.proofs.Logs.{goodOr7}
 use Rattle.call_lists.proofs.ByKind.{rightTag, allWritten}
-use Rattle.call_lists.proofs.Reached.{baseSteps, Means, Judged, Ended}
+use Rattle.call_lists.proofs.Reached.{baseSteps, Means, Judged, InClosed}
 use Rattle.call_lists.proofs.After.{reached-after, kind-after}
 
 -- ## One ended list
 
 module _ (kind : Kind) (calls : List Call) (c : machineAfter kind calls .phase ≡ Closed) where
-  pub ended-after : Ended kind (logFrom kind calls)
+  pub ended-after : InClosed kind (logFrom kind calls)
   ended-after = subst₂ (λ (p : Phase) (k : Kind). Means p k (machineAfter kind calls .state) (logFrom kind calls)) c (kind-after kind calls) (reached-after kind calls .means)
 
   pub steps-after : machineAfter kind calls .counts .steps ≡ endedSteps (logFrom kind calls)
@@ -33,7 +33,7 @@ same-one : {A : Type 0} (l : List A) (a b : A) → l ≡ (a ∷ []) → l ≡ (b
 same-one l a b p q = cc
 
 -- what was written and judged, by the arguments of the one begin
-by-arguments : (kind : Kind) (log : Log) (a : Arguments) → log .begins ≡ (a ∷ []) → Ended kind log
+by-arguments : (kind : Kind) (log : Log) (a : Arguments) → log .begins ≡ (a ∷ []) → InClosed kind log
     → (log .written ≡ allWritten kind a (log .«data») (log .text))
     × Judged kind (rightTag kind a (log .«data») (log .text)) (endedSteps log) (log .tags) (log .verdicts)
 by-arguments kind log a h e =
@@ -70,7 +70,7 @@ module _ (kind : Kind) (a b : Log) (s : Alike kind a b) where
   same-steps : endedSteps a ≡ endedSteps b
   same-steps = rw (s .«data», s .text)
 
-  same-work : Ended kind a → Ended kind b → (a .written ≡ b .written) × (a .verdicts ≡ b .verdicts)
+  same-work : InClosed kind a → InClosed kind b → (a .written ≡ b .written) × (a .verdicts ≡ b .verdicts)
   same-work x y =
       let z = by-arguments kind b (x .arguments) (sym (s .begins) ∙ x .begins) y in (
         x .written ∙ ap₂ (allWritten kind (x .arguments)) (s .«data») (s .text) ∙ sym (z .0),

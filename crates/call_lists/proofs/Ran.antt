@@ -2,12 +2,12 @@
 use mathlib.Core.Path.{_≡_, refl, sym, ap, ap₂, _∙_}
 use mathlib.Core.List.{List, [], _∷_, _++_}
 use Rattle.acorn_model.specs.declared.Kind.the-variants.{Sealing}
-use Rattle.acorn_model.specs.Calls.{done, Work, Outcome, Entry, entries, handedOn}
+use Rattle.calls.specs.Calls.{done, Work, Outcome}
+use Rattle.calls.specs.Lists.{Entry, entries, handedOn, AllAccepted}
 use Rattle.acorn_model.specs.Machine.{Machine, fresh, Call, work, call}
 use Rattle.acorn_model.specs.Lists.{Log, nothing, logged, joinLogs, logOf}
-use Rattle.call_lists.specs.WriterLists.{AllAccepted}
 use Rattle.acorn_model.proofs.Refusals.{Passed, works}
-use Rattle.call_lists.proofs.Lists.{entryOf, handed-append, entries-append}
+use Rattle.calls.proofs.Lists.{entryOf, handed-append, entries-append}
 use Rattle.call_lists.proofs.Logs.{added, work-adds, log-last}
 use Rattle.call_lists.proofs.Reached.{Reached}
 use Rattle.call_lists.proofs.After.{reached-after, kind-after}
@@ -18,7 +18,7 @@ pub record Ran (m : Machine) (calls : List Call) (log : Log) : Type 0 where
   pub accepts : AllAccepted (entries call (fresh Sealing) calls)
   pub log-is : log ≡ logOf (entries call (fresh Sealing) calls)
 
-all-append : (es fs : List (Entry Call)) → AllAccepted es → AllAccepted fs → AllAccepted (es ++ fs)
+all-append : (es fs : List (Entry Call Work)) → AllAccepted es → AllAccepted fs → AllAccepted (es ++ fs)
 all-append [] fs h g = g
 all-append (e ∷ es) fs h g = (h .0, all-append es fs (h .1) g)
 

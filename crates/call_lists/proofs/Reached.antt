@@ -10,7 +10,7 @@ use Rattle.acorn_model.specs.declared.Phase.{Phase}
 use Rattle.acorn_model.specs.declared.Phase.the-variants.{Fresh, Data, Text, Closed}
 use Rattle.acorn_model.specs.Bits.{Bits}
 use Rattle.acorn_model.specs.Stretches.{through, start, dataPiece, zeros}
-use Rattle.acorn_model.specs.Calls.{Reply, Work, sameBytes}
+use Rattle.calls.specs.Calls.{Reply, Work, sameBytes}
 use Rattle.acorn_model.specs.Machine.{Machine, fresh, byteLimit}
 use Rattle.acorn_model.specs.Lists.{Arguments, Log, nothing}
 use Rattle.call_lists.specs.MachineLists.{endedSteps}
@@ -49,7 +49,7 @@ abbrev pub Judged : Kind → List ℕ → ℕ → List (List ℕ) → List (Repl
 Judged Sealing T steps tags verdicts = (tags ≡ []) × (verdicts ≡ [])
 Judged Checking T steps tags verdicts = (t : List ℕ) × (tags ≡ (t ∷ [])) × (verdicts ≡ (goodOr7 (sameBytes t T) steps ∷ []))
 
-pub record Ended (kind : Kind) (log : Log) : Type 0 where
+pub record InClosed (kind : Kind) (log : Log) : Type 0 where
   pub arguments : Arguments
   pub begins : log .begins ≡ (arguments ∷ [])
   pub written : log .written ≡ allWritten kind arguments (log .«data») (log .text)
@@ -59,7 +59,7 @@ abbrev pub Means : Phase → Kind → Bits → Log → Type 0
 Means Fresh kind S log = log ≡ nothing
 Means Data kind S log = InData S log
 Means Text kind S log = InText kind S log
-Means Closed kind S log = Ended kind log
+Means Closed kind S log = InClosed kind log
 
 -- ## In every phase
 

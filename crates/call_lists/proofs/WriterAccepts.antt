@@ -8,7 +8,8 @@ use lib.Dec.{eqb}
 use lib.ListN.{length}
 use borrow.Author.Tests.{leb-false, le-ltb}
 use Rattle.acorn_model.specs.declared.Kind.the-variants.{Sealing}
-use Rattle.acorn_model.specs.Calls.{done, Work, writtenOver, Outcome, handedOn}
+use Rattle.calls.specs.Calls.{done, Work, writtenOver, Outcome}
+use Rattle.calls.specs.Lists.{handedOn}
 use Rattle.acorn_model.specs.Machine.{Machine, fresh, Call, begin, dataCall, sealText, sealClose, isData, isText, isSealing, keyLength, byteLimit}
 use Rattle.acorn_model.specs.Machine.{phaseAllows, sizesRight, overLimit, outputShort, runThrough, enter, cleared, countData, begun, dataTaken, answered, wrote, call}
 use Rattle.acorn_model.specs.Machine.{work as machineWork}

@@ -6,20 +6,19 @@ use Prim.Native.Nat.{ℕ, suc, _+_, _≤_, _<_}
 use native.Mathlib.Omega.{arith}
 use lib.ListN.{length}
 use borrow.Author.Tests.{le-ltb, lt-leb, eq-eqb}
-use Rattle.acorn_model.specs.Stretches.{tagLength}
-use Rattle.acorn_model.specs.Calls.{done, Work, Outcome, entries, handedOn}
+use Rattle.calls.specs.Calls.{done, Work, Outcome}
+use Rattle.calls.specs.Lists.{entries, handedOn, ifAccepted, AllAccepted}
 use Rattle.acorn_model.specs.Machine.{keyLength, answered, wrote}
 use Rattle.acorn_model.specs.Machine.{work as machineWork}
-use Rattle.acorn_model.specs.Lists.{ifAccepted}
 use Rattle.tape_model.specs.declared.Ticket.{Ticket}
 use Rattle.tape_model.specs.declared.Head.{Head}
 use Rattle.tape_model.specs.declared.WriterPhase.the-variants.{Open, Closed}
 use Rattle.tape_model.specs.Ticket.{ticketLength, headLength, headRule}
-use Rattle.tape_model.specs.Tape.{ticketLimit, tapeOf}
+use Rattle.tape_model.specs.Tape.{tapeTagLength, ticketLimit, tapeOf}
 use Rattle.tape_model.specs.Writer.{PlainWriter, freshWriter, WriterCall, start, add, finish, phaseAllows, keyRight, headRight, ticketRight, tapeFull, outputShort, writerCall}
 use Rattle.tape_model.specs.WriterLists.{Started, startOf, ticketsOf, writerLog}
 use Rattle.tape_model.specs.Laws.{Valid}
-use Rattle.call_lists.specs.WriterLists.{writerLogFrom, AllAccepted, TapeOutputs, RoomFor, adds, tapeCalls, EveryTapeWritten}
+use Rattle.call_lists.specs.WriterLists.{writerLogFrom, TapeOutputs, RoomFor, adds, tapeCalls, EveryTapeWritten}
 use Rattle.tape_model.proofs.Refusals.{WriterPassed}
 use Rattle.call_lists.proofs.WriterAccepts.{comesTo}
 use Rattle.call_lists.proofs.WriterRuns.{HasRun, fresh-has-run, runs-on, comes}
@@ -52,10 +51,10 @@ first w c cs ss ts a h p e rest =
 
 -- from an open writer with room for the tickets left
 from-open : (w : PlainWriter) (ts : List Ticket) (outs : ℕ → List ℕ) (out : List ℕ) → HasRun w → w .phase ≡ Open → Valid ts → w .tickets + length ts ≤ ticketLimit
-    → ((i : ℕ) → i < length ts → ticketLength ≤ length (outs i)) → tagLength ≤ length out → Comes w (adds ts outs ++ (finish out ∷ [])) [] ts
+    → ((i : ℕ) → i < length ts → ticketLength ≤ length (outs i)) → tapeTagLength ≤ length out → Comes w (adds ts outs ++ (finish out ∷ [])) [] ts
 unfolding entries handedOn writerLog startOf ticketsOf phaseAllows keyRight headRight ticketRight tapeFull outputShort machineWork wrote answered
 from-open w [] outs out h o v l rooms room =
-    let p : WriterPassed w (finish out) = record { phase = rw o; key = refl; head = refl; ticket = refl; full = refl; output = le-ltb (length out) tagLength room } in
+    let p : WriterPassed w (finish out) = record { phase = rw o; key = refl; head = refl; ticket = refl; full = refl; output = le-ltb (length out) tapeTagLength room } in
     first w (finish out) [] [] [] _ h p refl (tt, refl, refl, refl)
 from-open w (t ∷ ts) outs out h o v l rooms room =
     let c : WriterCall = add t (outs 0) in

@@ -6,11 +6,12 @@ use native.Mathlib.Omega.{arith}
 use lib.ListN.{length, length-append}
 use borrow.Author.Tests.{leb-false}
 use Rattle.acorn_model.specs.declared.Kind.the-variants.{Sealing}
-use Rattle.acorn_model.specs.Calls.{done, Work, Outcome, refusedWith, Entry}
+use Rattle.calls.specs.Calls.{done, Work, Outcome, refusedWith}
+use Rattle.calls.specs.Lists.{Entry, writtenBy}
 use Rattle.acorn_model.specs.Machine.{fresh, Call, sealText, sealClose}
 use Rattle.acorn_model.specs.Machine.{runThrough, enter, countData, begun, dataTaken, textTaken, closed, answered, wrote}
 use Rattle.acorn_model.specs.Machine.{work as machineWork}
-use Rattle.acorn_model.specs.Lists.{Log, nothing, logged, joinLogs, writtenBy}
+use Rattle.acorn_model.specs.Lists.{Log, nothing, logged, joinLogs}
 use Rattle.tape_model.specs.declared.Ticket.{Ticket}
 use Rattle.tape_model.specs.declared.WriterPhase.{WriterPhase}
 use Rattle.tape_model.specs.declared.WriterPhase.the-variants.{Open, Closed}
@@ -19,9 +20,10 @@ use Rattle.tape_model.specs.Tape.{ticketLimit, packTickets}
 use Rattle.tape_model.specs.Writer.{PlainWriter, freshWriter, WriterCall, start, add, finish, phaseAllows, tapeFull, outputOf, refusal, work, writerCall}
 use Rattle.tape_model.specs.WriterLists.{Started, startOf, ticketsOf, machineCallsOf, WriterLog, writerLog, headsOf}
 use Rattle.call_lists.specs.WriterLists.{writerAfter, writerLogFrom}
-use Rattle.acorn_model.proofs.Refusals.{Passed, by-number}
+use Rattle.acorn_model.proofs.Refusals.{Passed}
+use Rattle.calls.proofs.Refusals.{by-number}
 use Rattle.tape_model.proofs.Refusals.{WriterPassed, writer-passed}
-use Rattle.call_lists.proofs.Lists.{entryOf, kept-by-list}
+use Rattle.calls.proofs.Lists.{entryOf, kept-by-list}
 use Rattle.call_lists.proofs.Logs.{added, take-over, work-adds}
 use Rattle.tape_model.proofs.Tickets.{head-length}
 use Rattle.tape_model.proofs.Tapes.{tickets-append, ticket-alone}
@@ -108,5 +110,5 @@ writer-kept w c log r =
 pub writer-reached : (calls : List WriterCall) → WriterReached (writerAfter calls) (writerLogFrom calls)
 unfolding writerLog
 writer-reached calls =
-    kept-by-list writerCall (λ (w : PlainWriter) (es : List (Entry WriterCall)). WriterReached w (writerLog es))
+    kept-by-list writerCall (λ (w : PlainWriter) (es : List (Entry WriterCall Work)). WriterReached w (writerLog es))
     (λ w c es r. rw (writer-log-last es (entryOf writerCall w c)) (writer-kept w c (writerLog es) r)) freshWriter calls fresh-writer-reached

@@ -6,7 +6,7 @@ use native.Mathlib.Omega.{arith}
 use Rattle.acorn_model.specs.declared.Kind.the-variants.{Sealing}
 use Rattle.acorn_model.specs.declared.Phase.{Phase}
 use Rattle.acorn_model.specs.declared.Phase.the-variants.{Closed as MachineClosed}
-use Rattle.acorn_model.specs.Calls.{done, Work, Outcome, refusedWith}
+use Rattle.calls.specs.Calls.{done, Work, Outcome, refusedWith}
 use Rattle.acorn_model.specs.Machine.{Machine}
 use Rattle.acorn_model.specs.Lists.{Log}
 use Rattle.acorn_model.specs.Message.{sealed}
@@ -20,7 +20,7 @@ use Rattle.call_lists.specs.MachineLists.{logFrom}
 use Rattle.tape_model.specs.WriterLists.{Started, WriterLog, headsOf}
 use Rattle.call_lists.specs.WriterLists.{writerAfter, writerLogFrom, WriterLists}
 use Rattle.tape_model.proofs.Tapes.{tapes-come-back}
-use Rattle.acorn_model.proofs.Refusals.{by-number}
+use Rattle.calls.proofs.Refusals.{by-number}
 use Rattle.tape_model.proofs.Refusals.{writer-passed}
 use Rattle.call_lists.proofs.MachineLists.{machine-lists}
 use Rattle.call_lists.proofs.WriterReached.{Begun, WriterMeans, WriterReached, writer-in-phase}

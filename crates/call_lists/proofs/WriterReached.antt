@@ -8,9 +8,10 @@ use lib.ListN.{length}
 use Rattle.acorn_model.specs.declared.Kind.the-variants.{Sealing}
 use Rattle.acorn_model.specs.declared.Phase.{Phase}
 use Rattle.acorn_model.specs.declared.Phase.the-variants.{Closed as MachineClosed}
-use Rattle.acorn_model.specs.Calls.{Entry}
+use Rattle.calls.specs.Calls.{Work}
+use Rattle.calls.specs.Lists.{Entry, ifAccepted, writtenBy}
 use Rattle.acorn_model.specs.Machine.{isData, isText}
-use Rattle.acorn_model.specs.Lists.{ifAccepted, writtenBy, Log, nothing}
+use Rattle.acorn_model.specs.Lists.{Log, nothing}
 use Rattle.tape_model.specs.declared.WriterPhase.{WriterPhase}
 use Rattle.tape_model.specs.declared.WriterPhase.the-variants.{Fresh, Open, Closed}
 use Rattle.tape_model.specs.Ticket.{ticketLength, headLength, packHead}
@@ -25,7 +26,7 @@ use Rattle.tape_model.proofs.Tapes.{tickets-length}
 -- ## What a list of the writer's calls amounts to
 
 -- what one entry amounts to, one log after another, and no call
-abbrev pub writerLogged : Entry WriterCall → WriterLog
+abbrev pub writerLogged : Entry WriterCall Work → WriterLog
 writerLogged e =
     record {
       starts = ifAccepted (e .answer) (startOf (e .call));
@@ -46,7 +47,7 @@ writerFollowed a b =
 abbrev pub writerNothing : WriterLog
 writerNothing = record { starts = []; tickets = []; machineCalls = []; written = [] }
 
-pub writer-log-last : (es : List (Entry WriterCall)) (e : Entry WriterCall) → writerLog (es ++ (e ∷ [])) ≡ writerFollowed (writerLog es) (writerLogged e)
+pub writer-log-last : (es : List (Entry WriterCall Work)) (e : Entry WriterCall Work) → writerLog (es ++ (e ∷ [])) ≡ writerFollowed (writerLog es) (writerLogged e)
 unfolding writerLog
 writer-log-last [] e = simp append-nil
 writer-log-last (d ∷ es) e = rw (writer-log-last es e) (simp append-assoc)

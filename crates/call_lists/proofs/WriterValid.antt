@@ -6,15 +6,15 @@ use Prim.Native.Nat.{ℕ}
 use native.Mathlib.Omega.{arith}
 use lib.ListN.{length}
 use borrow.Author.Tests.{eqb-true}
-use Rattle.acorn_model.specs.Calls.{Reply, refused, done, Work, Outcome, refusedWith, entries}
+use Rattle.calls.specs.Calls.{Reply, refused, done, Work, Outcome, refusedWith}
+use Rattle.calls.specs.Lists.{entries, ifAccepted}
 use Rattle.acorn_model.specs.Machine.{keyLength}
-use Rattle.acorn_model.specs.Lists.{ifAccepted}
 use Rattle.tape_model.specs.declared.Ticket.{Ticket}
 use Rattle.tape_model.specs.Ticket.{headRule}
 use Rattle.tape_model.specs.Writer.{PlainWriter, WriterCall, start, add, finish, outputOf, keyRight, headRight, ticketRight, refusal, work, writerCall}
 use Rattle.tape_model.specs.WriterLists.{Started, startOf, ticketsOf, writerLog}
 use Rattle.tape_model.specs.Laws.{Valid}
-use Rattle.acorn_model.proofs.Refusals.{by-number}
+use Rattle.calls.proofs.Refusals.{by-number}
 use Rattle.tape_model.proofs.Refusals.{WriterPassed, writer-passed}
 
 -- a key of 16 bytes, and a head in its ranges

@@ -8,7 +8,8 @@ use lib.ListN.{length}
 use Rattle.acorn_model.specs.declared.Kind.{Kind}
 use Rattle.acorn_model.specs.declared.Kind.the-variants.{Sealing, Checking}
 use Rattle.acorn_model.specs.Paper.{newTag}
-use Rattle.acorn_model.specs.Calls.{refused, done, entries, handedOn}
+use Rattle.calls.specs.Calls.{refused, done}
+use Rattle.calls.specs.Lists.{entries, handedOn}
 use Rattle.acorn_model.specs.Machine.{Machine, fresh, Call, byteLimit, call}
 use Rattle.acorn_model.specs.Lists.{Arguments, Log, logOf, Ended, Alike}
 use Rattle.acorn_model.specs.Message.{sealed}

@@ -5,15 +5,15 @@ use mathlib.Core.List.{List, [], _∷_, _++_}
 use Prim.Native.Nat.{ℕ, suc, _≤_, _<_}
 use lib.ListN.{length}
 use Rattle.acorn_model.specs.declared.Kind.the-variants.{Sealing}
-use Rattle.acorn_model.specs.Calls.{done, Work, Entry, entries, handedOn}
-use Rattle.acorn_model.specs.Stretches.{tagLength}
+use Rattle.calls.specs.Calls.{done, Work}
+use Rattle.calls.specs.Lists.{entries, handedOn, AllAccepted}
 use Rattle.acorn_model.specs.Machine.{fresh, keyLength, call}
 use Rattle.acorn_model.specs.Lists.{logOf}
 use Rattle.tape_model.specs.declared.Ticket.{Ticket}
 use Rattle.tape_model.specs.declared.Head.{Head}
 use Rattle.tape_model.specs.declared.WriterPhase.the-variants.{Closed}
 use Rattle.tape_model.specs.Ticket.{ticketLength, headLength, headRule}
-use Rattle.tape_model.specs.Tape.{ticketLimit, tapeOf}
+use Rattle.tape_model.specs.Tape.{tapeTagLength, ticketLimit, tapeOf}
 use Rattle.tape_model.specs.Writer.{PlainWriter, freshWriter, WriterCall, start, add, finish, writerCall}
 use Rattle.tape_model.specs.WriterLists.{Started, WriterLog, writerLog, headsOf}
 use Rattle.tape_model.specs.Laws.{Valid, TapeLaws}
@@ -24,11 +24,6 @@ module _ (calls : List WriterCall) where
 
   abbrev pub writerLogFrom : WriterLog
   writerLogFrom = writerLog (entries writerCall freshWriter calls)
-
--- every call of a list is accepted
-abbrev pub AllAccepted : {C : Type 0} → List (Entry C) → Type 0
-AllAccepted [] = Unit {0}
-AllAccepted (e ∷ es) = ((w : Work) × (e .answer ≡ done w)) × AllAccepted es
 
 pub record WriterLists : Type 0 where
   -- the writer's machine is the one-step machine after the calls that the accepted calls make of it, and it accepts each of them
@@ -62,7 +57,7 @@ pub record TapeOutputs : Type 0 where
 pub record RoomFor (n : ℕ) (outs : TapeOutputs) : Type 0 where
   pub head : headLength ≤ length (outs .head)
   pub ticket : (i : ℕ) → i < n → ticketLength ≤ length (outs .ticket i)
-  pub tag : tagLength ≤ length (outs .tag)
+  pub tag : tapeTagLength ≤ length (outs .tag)
 
 -- the calls that add these tickets, and those that write a tape of them
 abbrev pub adds : List Ticket → (ℕ → List ℕ) → List WriterCall

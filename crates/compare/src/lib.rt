@@ -1,6 +1,6 @@
 // Byte strings compared whole, without an early exit, as tags are.
 ghost use mathlib.Core.Path.{_≡_};
-ghost use Rattle.acorn_model.specs.Calls.{sameBytes};
+ghost use Rattle.calls.specs.Calls.{sameBytes};
 
 // Where the lengths are the same, every byte is looked at.
 pub fn same_bytes(a: &[u8], b: &[u8]) -> bool

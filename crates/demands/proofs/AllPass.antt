@@ -1,7 +1,8 @@
 -- Lists of calls that all pass: what the whole list comes to is their work.
 use mathlib.Core.Path.{_≡_, refl, subst}
 use mathlib.Core.List.{List, [], _∷_}
-use Rattle.acorn_model.specs.Calls.{Work, Outcome, entries, handedOn}
+use Rattle.calls.specs.Calls.{Work, Outcome}
+use Rattle.calls.specs.Lists.{entries, handedOn}
 
 -- `step` does the work `plain` wherever the call passes
 module _ {M C : Type 0} (step plain : M → C → Outcome M Work) (Inv : M → Type 0) (Passes : M → C → Type 0)

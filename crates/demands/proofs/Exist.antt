@@ -1,35 +1,24 @@
 -- Every list of calls can be made, on sessions and on writers: the contracts leave no call without a reply.
 use mathlib.Core.Path.{_≡_, refl, ap}
-use mathlib.Core.List.{List, [], _∷_}
 use Prim.Native.Nat.{ℕ}
-use Rattle.acorn_model.specs.Calls.{Reply, Work, Outcome, answerReply, Entry, callsOf}
+use Rattle.calls.specs.Calls.{Reply, Work, Outcome, answerReply}
 use Rattle.acorn_model.specs.Machine.{Machine, fresh, call as machineCall}
 use Rattle.tape_model.specs.Writer.{PlainWriter, freshWriter, writerCall}
 use Rattle.session.specs.declared.Reply.{Reply as SessionReply}
-use Rattle.session.specs.Contracts.{machineOf, outcomeOf, wrappedMachine, wrappedOutcome, Called}
+use Rattle.session.specs.Contracts.{machineOf, sessionOutcome, wrappedMachine, wrappedOutcome, Called}
 use Rattle.session.specs.Words.{sessionFor}
 use Rattle.session.proofs.WordsBack.{session-clear, session-stands}
 use Rattle.tape.specs.declared.WriterReply.{WriterReply}
 use Rattle.tape.specs.Contracts.{writerOf, wrappedWriter, wrappedWriterOutcome, WriterCalled}
 use Rattle.tape.specs.Contracts as tape
-use Rattle.demands.specs.CallsMade.{CallsMade, none, call}
 use Rattle.demands.specs.Examples.{SessionReplies, WriterReplies, SessionsExist, WritersExist}
+use Rattle.calls.proofs.Made.{calls-made}
 use Rattle.demands.proofs.Standing.{call-clear, answerOf, answers, writer-call-clear, writerFor, writer-stands}
-
-module _ {S C R : Type 0} (next : R → S) (reply : R → Reply Work) (Called : S → C → R → List ℕ → Type 0)
-    (replies : (s : S) (c : C) → (r : R) × (out : List ℕ) × Called s c r out) where
-  pub calls-made : (s : S) (cs : List C) → (es : List (Entry C)) × (e : S) × CallsMade next reply Called s es e × (callsOf es ≡ cs)
-  unfolding callsOf
-  calls-made s [] = ([], s, none, refl)
-  calls-made s (c ∷ cs) =
-      let k = replies s c in
-      let p = calls-made (next (k .0)) cs in
-      (record { call = c; answer = reply (k .0); out = k .1 } ∷ p .0, p .1, call (k .0) (k .2) (p .2), ap (_∷_ c) (p .3))
 
 -- ## Sessions
 
 pub session-replies : SessionReplies
-unfolding outcomeOf wrappedOutcome wrappedMachine
+unfolding sessionOutcome wrappedOutcome wrappedMachine
 session-replies s c =
     let o : Outcome Machine Work = wrappedOutcome (machineCall (machineOf s) c) in
     let next = session-stands (o .next) (call-clear (machineOf s) c (session-clear s)) in
@@ -45,7 +34,7 @@ sessions-exist kind cs =
 -- ## Writers
 
 pub writer-replies : WriterReplies
-unfolding tape.outcomeOf writerOf wrappedWriterOutcome wrappedWriter wrappedMachine
+unfolding tape.writerOutcome writerOf wrappedWriterOutcome wrappedWriter wrappedMachine
 writer-replies w c =
     let o : Outcome PlainWriter Work = wrappedWriterOutcome (writerCall (writerOf w) c) in
     let next = writer-stands (o .next) (writer-call-clear (writerOf w) c (session-clear (w .session))) in

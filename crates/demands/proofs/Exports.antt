@@ -6,11 +6,11 @@ use Prim.Native.Nat.{ℕ}
 use native.Mathlib.Omega.{arith}
 use borrow.Author.Tests.{ne-eqb}
 use Rattle.acorn_model.specs.declared.Kind.{Kind}
-use Rattle.acorn_model.specs.Bits.{_if_else_}
+use Rattle.calls.specs.Calls.{_if_else_, Reply, refused, done, Work, Outcome, sameBytes, refusedWith, sentBack}
 use Rattle.acorn_model.specs.Stretches.{tagOf}
-use Rattle.acorn_model.specs.Calls.{Reply, refused, done, Work, Outcome, sameBytes, refusedWith, Entry, callsOf, entries, handedOn}
+use Rattle.calls.specs.Lists.{Entry, callsOf, entries, handedOn, CallsMade, none, call as made}
 use Rattle.acorn_model.specs.Machine.{Machine, Call, begin, dataCall, sealText, checkText, sealClose, checkClose, fresh, outputOf, refusal, textEnded, closed, answered, wrote, verdict, work, call}
-use Rattle.acorn_model.proofs.Refusals.{by-number}
+use Rattle.calls.proofs.Refusals.{by-number}
 use Rattle.tape_model.specs.Writer.{PlainWriter, WriterCall, start, add, finish, freshWriter, onAnswer, passedOn, started, writerCall}
 use Rattle.tape_model.specs.Writer as plain
 use Rattle.call_lists.proofs.WriterRuns as writers
@@ -21,14 +21,13 @@ use Rattle.session.proofs.WordsBack.{Clear, words-stand}
 use Rattle.tape.specs.Contracts.{wrappedWriterOutcome}
 use Rattle.tape.specs.Words.{plainWriterIn, writerWordsFor}
 use Rattle.tape.proofs.WriterBack.{writer-words-stand}
-use Rattle.c_answers.specs.Answers.{answerNumbers, sentBack}
+use Rattle.c_answers.specs.Answers.{answerNumbers}
 use Rattle.haul_tape.specs.Contracts.{wordsAfter, Seen, SessionSeen, WriterSeen}
-use Rattle.demands.specs.CallsMade.{CallsMade, none, call as made}
 use Rattle.demands.specs.Exports.{Exported, replyIn, SessionWords, WriterWords, ExportDemand}
 use Rattle.demands.proofs.Sessions.{HasRun, runs-on, has-run-fresh, run-small}
 use Rattle.demands.proofs.Writers.{call-within-writer}
 use Rattle.demands.proofs.Standing.{call-clear, writer-call-clear}
-use Rattle.demands.proofs.Exist.{calls-made}
+use Rattle.calls.proofs.Made.{calls-made}
 
 -- ## Any kind of words
 
@@ -56,7 +55,7 @@ module _ {C M : Type 0} (wordsOf : M → List ℕ) (modelIn : List ℕ → M) (w
       by true e = w ∙ ap wordsOf (sym (stays m c e))
       by false e = refl
 
-  as-model : (m : M) (words e : List ℕ) (es : List (Entry C)) → Inv m → words ≡ wordsOf m
+  as-model : (m : M) (words e : List ℕ) (es : List (Entry C Work)) → Inv m → words ≡ wordsOf m
       → CallsMade {R = Exported} (λ r. r .words) (λ r. replyIn (r .answer)) (λ before c r out. Seen wordsOf before (wrapped (step (modelIn before) c)) (r .words) (r .answer) out) words es e
       → (es ≡ entries step m (callsOf es)) × (e ≡ wordsOf (handedOn step m (callsOf es)))
   unfolding entries handedOn callsOf
@@ -106,14 +105,14 @@ unfolding call
 called m c = by-number (Passes m) (refusal m c) (work m c) (refusedWith (refusal m c) m (outputOf c)) (λ e. worked m c) (λ h. unchanged (refusal m c) m (outputOf c) h)
 
 -- a machine that calls led to, with nothing above its 293 bits
-abbrev Reached : Machine → Type 0
-Reached m = HasRun m × Clear m
+abbrev ReachedClear : Machine → Type 0
+ReachedClear m = HasRun m × Clear m
 
-sessions : (kind : Kind) (es : List (Entry Call)) (e : List ℕ) → SessionWords kind es e
+sessions : (kind : Kind) (es : List (Entry Call Work)) (e : List ℕ) → SessionWords kind es e
     → (es ≡ entries call (fresh kind) (callsOf es)) × (e ≡ wordsFor (handedOn call (fresh kind) (callsOf es)))
 unfolding fresh
 sessions kind es e p =
-    as-model wordsFor machineIn wrappedOutcome call Reached
+    as-model wordsFor machineIn wrappedOutcome call ReachedClear
     (λ m i. words-stand m (i .1))
     (λ m c i. call-within m c (run-small _ (runs-on m c (i .0))))
     (λ m c i. (runs-on m c (i .0), call-clear m c (i .1)))
@@ -140,7 +139,7 @@ writer-called w c =
 abbrev WriterReached : PlainWriter → Type 0
 WriterReached w = writers.HasRun w × Clear (w .machine)
 
-of-writers : (es : List (Entry WriterCall)) (e : List ℕ) → WriterWords es e
+of-writers : (es : List (Entry WriterCall Work)) (e : List ℕ) → WriterWords es e
     → (es ≡ entries writerCall freshWriter (callsOf es)) × (e ≡ writerWordsFor (handedOn writerCall freshWriter (callsOf es)))
 unfolding freshWriter fresh
 of-writers es e p =

@@ -1,4 +1,3 @@
-pub mod AsModel
 pub mod Sessions
 pub mod Writers
 pub mod Numbers

@@ -6,19 +6,19 @@ use Prim.Native.Nat.{ℕ, _-_}
 use native.Mathlib.Omega.{arith}
 use lib.ListN.{length}
 use borrow.Author.Tests.{le-ltb}
-use Rattle.acorn_model.specs.declared.Written.{Written}
-use Rattle.acorn_model.specs.declared.Written.the-variants.{Refused, Done}
-use Rattle.acorn_model.specs.Stretches.{tagLength}
+use Rattle.calls.specs.declared.Written.{Written}
+use Rattle.calls.specs.declared.Written.the-variants.{Refused, Done}
 use Rattle.acorn_model.specs.Paper.{newTag}
-use Rattle.acorn_model.specs.Calls.{Reply, refused, done, unlessRefused, sameBytes, writtenReply}
-use Rattle.acorn_model.specs.Message.{resultOf, tagMatches, tagRefusal, openRefusal, sealMessage, openMessage}
+use Rattle.calls.specs.Calls.{Reply, refused, done, unlessRefused, sameBytes, writtenReply, resultOf}
+use Rattle.acorn_model.specs.Message.{tagMatches, tagRefusal, openRefusal, sealMessage, openMessage}
 use Rattle.acorn_model.specs.Laws.{WithinLimits}
-use Rattle.acorn_model.proofs.SameBytes.{same-bytes-true}
+use Rattle.acorn_model.specs.Machine.{tagLength}
+use Rattle.calls.proofs.SameBytes.{same-bytes-true}
 use Rattle.acorn_model.proofs.Messages.{open-passed}
 use Rattle.tape_model.specs.declared.OpenedTape.{OpenedTape}
 use Rattle.tape_model.specs.declared.OpenedTape.the-variants.{Refused as TapeRefused, Done as TapeDone}
 use Rattle.tape_model.specs.Ticket.{packHead, unpackHead}
-use Rattle.tape_model.specs.Tape.{ticketsLength, Totals, tapeLength, openTape, openedReply}
+use Rattle.tape_model.specs.Tape.{isTicketsLength, Totals, isTapeLength, openTape, openedReply}
 use Rattle.tape_model.specs.Tape as tape
 use Rattle.demands.specs.Messages.{Seals, OpensTo}
 use Rattle.demands.specs.Examples.{MessageExamples, OpeningReplies, TapeSeven}
@@ -85,5 +85,5 @@ opening-replies key t out =
     (openedOf (o .answer), o .out, λ i. record { answer = sym (opened-so (o .answer)) i; out = o .out })
 
 pub tape-seven : TapeSeven
-unfolding openTape resultOf unlessRefused tape.openRefusal tapeLength ticketsLength unpackHead packHead
+unfolding openTape resultOf unlessRefused tape.openTapeRefusal isTapeLength isTicketsLength unpackHead packHead
 tape-seven key tag out k t n = rw (k, t, no-match key _ _ tag t n, le-ltb (length out) 0 (omega arith))

@@ -4,12 +4,12 @@ use mathlib.Core.Bool.{Bool, false, not}
 use mathlib.Core.List.{List, _++_}
 use Prim.Native.Nat.{ℕ}
 use lib.ListN.{length}
-use Rattle.acorn_model.specs.Bits.{Bits, _if_else_, bitsIn, bytes}
-use Rattle.acorn_model.specs.Stretches.{tagLength}
+use Rattle.acorn_model.specs.Bits.{Bits, bitsIn, bytes}
+use Rattle.calls.specs.Calls.{_if_else_, done, refused, unlessRefused, writtenReply, writtenOver, resultOf}
 use Rattle.acorn_model.specs.Paper.{ciphertext, tag, decrypted, newTag}
-use Rattle.acorn_model.specs.Calls.{done, refused, unlessRefused, writtenReply, writtenOver}
-use Rattle.acorn_model.specs.Message.{resultOf, sealed, tagMatches, opened, tagRefusal, openRefusal, openMessage}
+use Rattle.acorn_model.specs.Message.{sealed, tagMatches, opened, tagRefusal, openRefusal, openMessage}
 use Rattle.acorn_model.specs.Laws.{ByPaper}
+use Rattle.acorn_model.specs.Machine.{tagLength}
 use Rattle.acorn_model.proofs.Messages.{Openable, open-passed}
 use Rattle.acorn_model.proofs.Proved.{paper-computed, message-laws}
 use Rattle.demands.specs.Messages.{MessageDemand}

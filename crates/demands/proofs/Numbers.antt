@@ -4,9 +4,7 @@ use mathlib.Core.Bool.{Bool, true, false}
 use mathlib.Core.List.{List}
 use Prim.Native.Nat.{ℕ, zero, suc}
 use native.Mathlib.Omega.{arith}
-use Rattle.acorn_model.specs.Bits.{_if_else_}
-use Rattle.acorn_model.specs.Calls.{Reply, refused, done, accepted, unlessRefused}
-use Rattle.acorn_model.specs.Message.{Result, resultOf}
+use Rattle.calls.specs.Calls.{_if_else_, Reply, refused, done, accepted, unlessRefused, Result, resultOf}
 use Rattle.demands.specs.Refusals.{AnsweredBy, RefusedBy}
 
 pub never : {A : Type 0} {a : A} {n : ℕ} {P : Type 0} → done a ≡ refused n → P

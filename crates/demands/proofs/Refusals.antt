@@ -8,10 +8,9 @@ use lib.Dec.{leb, ltb, eqb}
 use lib.ListN.{length, take, drop, length-drop}
 use lib.Seq.{length-take-le}
 use borrow.Author.Tests.{leb-false, eq-eqb, le-ltb}
-use Rattle.acorn_model.specs.Bits.{_if_else_}
+use Rattle.calls.specs.Calls.{_if_else_, Reply, refused, done, Work, Outcome, accepted, sameBytes, answerReply, writtenReply, unlessRefused, refusedWith}
 use Rattle.acorn_model.specs.Stretches.{tagOf}
 use Rattle.acorn_model.specs.declared.Phase.the-variants.{Closed}
-use Rattle.acorn_model.specs.Calls.{Reply, refused, done, Work, Outcome, accepted, sameBytes, answerReply, writtenReply, unlessRefused, refusedWith}
 use Rattle.acorn_model.specs.Machine.{Machine, fresh, Call, begin, dataCall, sealText, checkText, sealClose, checkClose, outputOf, keyLength, refusal, wrote, answered, verdict, textEnded, closed, enter, work, call}
 use Rattle.acorn_model.specs.Machine.{work as machineWork}
 use Rattle.acorn_model.specs.Message.{tagMatches}
@@ -22,18 +21,19 @@ use Rattle.tape_model.specs.declared.Ticket.{Ticket}
 use Rattle.tape_model.specs.Format.{widths, inRanges, unpack}
 use Rattle.tape_model.specs.Ticket.{form1, ticketLength, ticketOf, valuesRule, ticketRule, packTicketInto, unpackTicket}
 use Rattle.tape_model.specs.Ticket.{headFormat, headLength, headOf, packHeadInto, unpackHead}
-use Rattle.tape_model.specs.Tape.{ticketLimit, nonceOf, ticketsLength, isRefused, tapeLength, headBytes, sealedBytes, ticketCount, openRefusal, openTape, openedReply}
+use Rattle.tape_model.specs.Tape.{ticketLimit, nonceOf, isTicketsLength, isRefused, isTapeLength, headBytes, sealedBytes, ticketCount, openTapeRefusal, openTape, openedReply}
 use Rattle.tape_model.specs.Writer.{PlainWriter, WriterCall, start, add, finish, onAnswer, passedOn, started, writerCall}
 use Rattle.tape_model.specs.Writer as plain
 use Rattle.tape_model.specs.Reader as model
 use Rattle.tape_model.specs.Reader.{Reading, atEnd, ReadOutcome, stays, handedOut, readNext}
-use Rattle.acorn_model.proofs.Refusals.{by-number, never-7}
+use Rattle.acorn_model.proofs.Refusals.{never-7}
+use Rattle.calls.proofs.Refusals.{by-number}
 use Rattle.tape_model.proofs.Refusals.{writer-passed}
 use Rattle.call_lists.proofs.WriterRuns.{HasRun}
 use Rattle.call_lists.proofs.WriterAccepts.{MachinePassed, machine-passed, comesTo, accepted-work}
 use Rattle.session.specs.declared.Session.{Session}
 use Rattle.session.specs.declared.Reply.{Reply as SessionReply}
-use Rattle.session.specs.Contracts.{machineOf, outcomeOf, wrapped, wrappedMachine, wrappedReply, wrappedOutcome, Called}
+use Rattle.session.specs.Contracts.{machineOf, sessionOutcome, wrapped, wrappedMachine, wrappedReply, wrappedOutcome, Called}
 use Rattle.session.proofs.Wrapping.{within}
 use Rattle.tape.specs.declared.Writer.{Writer}
 use Rattle.tape.specs.declared.WriterReply.{WriterReply}
@@ -114,7 +114,7 @@ number-call m c = from (refusal m c)
     from (suc n) = refused-by n
 
 session-refusals : (s : Session) (c : Call) (r : SessionReply) (out : List ℕ) (h : Called s c r out) → SessionRefusals s c r out h
-unfolding outcomeOf wrappedOutcome wrappedReply wrappedMachine
+unfolding sessionOutcome wrappedOutcome wrappedReply wrappedMachine
 session-refusals s c r out h =
     let m = machineOf s in
     let answer : answerReply (r .answer) ≡ wrappedReply (call m c .answer) = λ i. h i .answer in
@@ -176,7 +176,7 @@ wrapped-number n (refused k) h = h
 wrapped-number n (done w) h = by-cases n _ (λ e. (_, refl)) (λ k e. never (h .refuses k .1 e))
 
 writer-refusals : (w : Writer) (c : WriterCall) (r : WriterReply) (out : List ℕ) (h : WriterCalled w c r out) → WriterRefusals w c r out h
-unfolding tape.outcomeOf wrappedWriterOutcome wrappedWriter wrappedReply wrappedMachine
+unfolding tape.writerOutcome wrappedWriterOutcome wrappedWriter wrappedReply wrappedMachine
 writer-refusals w c r out h =
     let p = writerOf w in
     let answer : answerReply (r .answer) ≡ wrappedReply (writerCall p c .answer) = λ i. h i .answer in
@@ -202,18 +202,18 @@ full w t out o n v = rw (o, v, n)
 only-7 : (a b c d : Bool) (rest : ℕ) → a ≡ true → b ≡ false → c ≡ false → d ≡ false → (2 if not a else 3 if b else 6 if c else 7 if not d else rest) ≡ 7
 only-7 a b c d rest p q r s = rw (p, q, r, s)
 
-tape-seven : (key tape out : List ℕ) → length key ≡ keyLength → tapeLength (length tape) ≡ true → isRefused (unpackHead (headBytes tape)) ≡ false
-    → ticketLength * ticketCount tape ≤ length out → tagMatches key (nonceOf (headBytes tape)) (headBytes tape) (sealedBytes tape) ≡ false → openRefusal key tape out ≡ 7
-unfolding openRefusal
+tape-seven : (key tape out : List ℕ) → length key ≡ keyLength → isTapeLength (length tape) ≡ true → isRefused (unpackHead (headBytes tape)) ≡ false
+    → ticketLength * ticketCount tape ≤ length out → tagMatches key (nonceOf (headBytes tape)) (headBytes tape) (sealedBytes tape) ≡ false → openTapeRefusal key tape out ≡ 7
+unfolding openTapeRefusal
 tape-seven key tape out k l h room m =
-    only-7 (eqb (length key) keyLength && tapeLength (length tape)) (isRefused (unpackHead (headBytes tape))) (ltb (length out) (ticketLength * ticketCount tape))
+    only-7 (eqb (length key) keyLength && isTapeLength (length tape)) (isRefused (unpackHead (headBytes tape))) (ltb (length out) (ticketLength * ticketCount tape))
     (tagMatches key (nonceOf (headBytes tape)) (headBytes tape) (sealedBytes tape)) _ (rw (eq-eqb (length key) keyLength k) l) h
     (le-ltb (length out) (ticketLength * ticketCount tape) room) m
 
 opening-refusals : (key tape out after : List ℕ) (r : OpenedTape) (h : OpensTape key tape out r after) → OpeningRefusals key tape out after r h
 unfolding openTape
 opening-refusals key tape out after r h =
-    let x = refused-as (openRefusal key tape out) _ _ out (openedReply r) after h in
+    let x = refused-as (openTapeRefusal key tape out) _ _ out (openedReply r) after h in
     record {
       number = x .number;
       unchanged = x .unchanged;
@@ -247,10 +247,10 @@ module _ (r : model.Reader) where
 
   reads : Reads (readerNumber r) r (readNext r)
   unfolding readNext
-  reads = by-tests (ticketsLength (length (r .string))) _ refl
+  reads = by-tests (isTicketsLength (length (r .string))) _ refl
 
 reader-refusals : (r : Reader) (h : ReaderReply) (called : NextCalled r h) → ReaderRefusals r h called
-unfolding reader.outcomeOf
+unfolding reader.readerOutcome
 reader-refusals r h called =
     let x = subst (Reads (readerNumber (readerOf r)) (readerOf r)) (sym (called .outcome)) (reads (readerOf r)) in
     record { number = x .0; unchanged = x .1 }

@@ -10,16 +10,17 @@ use lib.ListN.{length, length-append, getD, replicate}
 use borrow.Author.Tests.{le-ltb, eq-eqb}
 use Rattle.acorn_model.specs.declared.Kind.{Kind}
 use Rattle.acorn_model.specs.declared.Kind.the-variants.{Sealing, Checking}
-use Rattle.acorn_model.specs.Bits.{AreBytes}
-use Rattle.acorn_model.specs.Stretches.{tagLength, tagOf}
+use Rattle.calls.specs.Calls.{AreBytes}
+use Rattle.acorn_model.specs.Stretches.{tagOf}
 use Rattle.acorn_model.specs.Paper.{newTag}
-use Rattle.acorn_model.specs.Calls.{Reply, refused, done, Work, sameBytes, Entry, entries, handedOn, unlessRefused, refusedWith}
-use Rattle.acorn_model.specs.Machine.{Machine, Call, begin, dataCall, checkText, checkClose, fresh, call, byteLimit, keyAndNonceRight}
+use Rattle.calls.specs.Calls.{Reply, refused, done, Work, sameBytes, unlessRefused, refusedWith}
+use Rattle.calls.specs.Lists.{Entry, entries, handedOn}
+use Rattle.acorn_model.specs.Machine.{tagLength, Machine, Call, begin, dataCall, checkText, checkClose, fresh, call, byteLimit, keyAndNonceRight}
 use Rattle.acorn_model.specs.Machine.{phaseAllows, sizesRight, overLimit, outputShort, refusal}
 use Rattle.acorn_model.specs.Machine.{runThrough, enter, cleared, countData, countText, begun, dataTaken, dataEnded, textTaken, textEnded, closed, answered, wrote, verdict, work}
 use Rattle.acorn_model.specs.Laws.{WithinLimits}
 use Rattle.acorn_model.specs.Lists.{Ended, Alike, beginOf, dataOf, textOf, tagsOf, verdictOf, logged, joinLogs, nothing, logOf}
-use Rattle.acorn_model.proofs.SameBytes.{same-bytes-refl, same-bytes-true}
+use Rattle.calls.proofs.SameBytes.{same-bytes-refl, same-bytes-true}
 use Rattle.acorn_model.proofs.Outputs.{newTag-length}
 use Rattle.acorn_model.proofs.Proved.{stretches-agree}
 use Rattle.acorn_model.proofs.Refusals.{Passed, works}
@@ -31,7 +32,7 @@ use Rattle.demands.proofs.AllPass.{AllPass, all-same}
 abbrev Passing : Kind → List Call → Type 0
 Passing kind cs = AllPass call work (λ m. Unit {0}) Passed (λ m c _ p. works m c p) (λ m c _. tt) (fresh kind) cs
 
-module _ (kind : Kind) (cs : List Call) (P : List (Entry Call) → Machine → Type 0) where
+module _ (kind : Kind) (cs : List Call) (P : List (Entry Call Work) → Machine → Type 0) where
   -- what holds of the machine's list holds of a session's
   on-session : P (entries call (fresh kind) cs) (handedOn call (fresh kind) cs) → SomeSession kind cs P
   on-session h =
@@ -214,7 +215,7 @@ module _ (key nonce «data» first second tag : List ℕ) (l : WithinLimits key 
   )
 
   -- the close of a list, whose answer goes by the tag
-  abbrev closing : Bool → Machine → List (Entry Call)
+  abbrev closing : Bool → Machine → List (Entry Call Work)
   closing b m = record { call = checkClose tag; answer = verdict b m; out = [] } ∷ []
 
   alike : (b b′ : Bool) (m m′ : Machine)

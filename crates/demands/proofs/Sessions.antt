@@ -6,11 +6,12 @@ use Prim.Native.Nat.{ℕ, _≤_, _<_, _^_}
 use lib.ListN.{length}
 use Rattle.acorn_model.specs.declared.Kind.{Kind}
 use Rattle.acorn_model.specs.declared.Kind.the-variants.{Sealing, Checking}
-use Rattle.acorn_model.specs.Bits.{Bits, AreBytes, bitsIn, bytes}
-use Rattle.acorn_model.specs.Stretches.{tagLength}
+use Rattle.acorn_model.specs.Bits.{Bits, bitsIn, bytes}
+use Rattle.calls.specs.Calls.{AreBytes}
 use Rattle.acorn_model.specs.Paper.{newTag}
-use Rattle.acorn_model.specs.Calls.{refused, done, answerReply, Entry, callsOf, entries, handedOn}
-use Rattle.acorn_model.specs.Machine.{Machine, Call, fresh, byteLimit, call}
+use Rattle.calls.specs.Calls.{Work, refused, done, answerReply}
+use Rattle.calls.specs.Lists.{Entry, callsOf, entries, handedOn}
+use Rattle.acorn_model.specs.Machine.{tagLength, Machine, Call, fresh, byteLimit, call}
 use Rattle.acorn_model.specs.Lists.{Arguments, Log, logOf, Ended, Alike}
 use Rattle.acorn_model.proofs.Proved.{paper-computed}
 use Rattle.call_lists.specs.MachineLists.{machineAfter, logFrom, endedSteps}
@@ -19,11 +20,11 @@ use Rattle.call_lists.proofs.After.{call-kept}
 use Rattle.call_lists.proofs.MachineLists.{machine-lists}
 use Rattle.session.specs.declared.Session.{Session}
 use Rattle.session.specs.declared.Reply.{Reply as SessionReply}
-use Rattle.session.specs.Contracts.{machineOf, outcomeOf, Called}
+use Rattle.session.specs.Contracts.{machineOf, sessionOutcome, Called}
 use Rattle.session.proofs.Wrapping.{called-within}
 use Rattle.demands.specs.Sessions.{SessionList, PaperOf, SessionDemand}
 use Rattle.demands.proofs.Messages.{by-paper}
-use Rattle.demands.proofs.AsModel.{as-model}
+use Rattle.calls.proofs.Made.{as-model}
 
 -- a machine that a list of calls led to
 pub record HasRun (m : Machine) : Type 0 where
@@ -42,10 +43,10 @@ run-small m h = reached-small m (h .log) (h .reached)
 
 says : (s : Session) (c : Call) (r : SessionReply) (out : List ℕ) → HasRun (machineOf s) → Called s c r out
     → record { next = machineOf (r .session); answer = answerReply (r .answer); out = out } ≡ call (machineOf s) c
-unfolding outcomeOf
+unfolding sessionOutcome
 says s c r out h k = called-within s c r out (machineOf s) refl (run-small _ (runs-on (machineOf s) c h)) k
 
-module _ (kind : Kind) (es : List (Entry Call)) (e : Session) (l : SessionList kind es e) where
+module _ (kind : Kind) (es : List (Entry Call Work)) (e : Session) (l : SessionList kind es e) where
   as-machine : (es ≡ entries call (fresh kind) (callsOf es)) × (machineOf e ≡ handedOn call (fresh kind) (callsOf es))
   as-machine =
       subst (λ (m : Machine). (es ≡ entries call m (callsOf es)) × (machineOf e ≡ handedOn call m (callsOf es))) (l .isFresh)
@@ -62,7 +63,7 @@ module _ (kind : Kind) (es : List (Entry Call)) (e : Session) (l : SessionList k
   ended : Ended (machineOf e) → Ended (machineAfter kind (callsOf es))
   ended h = subst Ended same-end h
 
-taken : (kind : Kind) (es : List (Entry Call)) (e : Session) → SessionList kind es e
+taken : (kind : Kind) (es : List (Entry Call Work)) (e : Session) → SessionList kind es e
     → (machineOf e .counts .dataBytes ≡ length (logOf es .«data»)) × (length (logOf es .«data») ≤ byteLimit)
     × (machineOf e .counts .textBytes ≡ length (logOf es .text)) × (length (logOf es .text) ≤ byteLimit)
 taken kind es e l =
@@ -70,11 +71,11 @@ taken kind es e l =
     × (m .counts .textBytes ≡ length (x .text)) × (length (x .text) ≤ byteLimit))
     (sym (same-end kind es e l)) (sym (same-log kind es e l)) (machine-lists .taken kind (callsOf es))
 
-counted : (kind : Kind) (es : List (Entry Call)) (e : Session) → SessionList kind es e → Ended (machineOf e) → machineOf e .counts .steps ≡ endedSteps (logOf es)
+counted : (kind : Kind) (es : List (Entry Call Work)) (e : Session) → SessionList kind es e → Ended (machineOf e) → machineOf e .counts .steps ≡ endedSteps (logOf es)
 counted kind es e l h =
     ap (λ (m : Machine). m .counts .steps) (same-end kind es e l) ∙ machine-lists .counted kind (callsOf es) (ended kind es e l h) ∙ ap endedSteps (sym (same-log kind es e l))
 
-module _ (kind : Kind) (es es′ : List (Entry Call)) (e e′ : Session) (l : SessionList kind es e) (l′ : SessionList kind es′ e′) where
+module _ (kind : Kind) (es es′ : List (Entry Call Work)) (e e′ : Session) (l : SessionList kind es e) (l′ : SessionList kind es′ e′) where
   cuts : Ended (machineOf e) → Ended (machineOf e′) → Alike kind (logOf es) (logOf es′)
       → (logOf es .written ≡ logOf es′ .written) × (machineOf e .counts .steps ≡ machineOf e′ .counts .steps) × (logOf es .verdicts ≡ logOf es′ .verdicts)
   cuts h h′ a =
@@ -91,12 +92,12 @@ module _ (kind : Kind) (es es′ : List (Entry Call)) (e e′ : Session) (l : Se
 
 -- ## By the paper
 
-began : (kind : Kind) (es : List (Entry Call)) (e : Session) → SessionList kind es e → Ended (machineOf e) → (a : Arguments) × (logOf es .begins ≡ (a ∷ []))
+began : (kind : Kind) (es : List (Entry Call Work)) (e : Session) → SessionList kind es e → Ended (machineOf e) → (a : Arguments) × (logOf es .begins ≡ (a ∷ []))
 began kind es e l h =
     let b = machine-lists .began kind (callsOf es) (ended kind es e l h) in
     (b .0, ap (λ (x : Log). x .begins) (same-log kind es e l) ∙ b .1)
 
-sealed : (es : List (Entry Call)) (e : Session) → SessionList Sealing es e → Ended (machineOf e)
+sealed : (es : List (Entry Call Work)) (e : Session) → SessionList Sealing es e → Ended (machineOf e)
     → (a : Arguments) → logOf es .begins ≡ (a ∷ []) → (c T : Bits) → PaperOf (logOf es) a (bitsIn (logOf es .text)) c T
     → logOf es .written ≡ bytes (length (logOf es .text)) c ++ bytes tagLength T
 sealed es e l h a =
@@ -104,7 +105,7 @@ sealed es e l h a =
     (sym (same-log Sealing es e l))
     (λ b c T p. machine-lists .wrote (callsOf es) a (ended Sealing es e l h) b ∙ sym (by-paper (a .key) (a .nonce) _ _ c T p))
 
-judged : (es : List (Entry Call)) (e : Session) → SessionList Checking es e → Ended (machineOf e) → AreBytes (logOf es .text)
+judged : (es : List (Entry Call Work)) (e : Session) → SessionList Checking es e → Ended (machineOf e) → AreBytes (logOf es .text)
     → (a : Arguments) → logOf es .begins ≡ (a ∷ []) → (p T : Bits) → PaperOf (logOf es) a p (bitsIn (logOf es .text)) T
     → (logOf es .written ≡ []) × ((t : List ℕ) × (logOf es .tags ≡ (t ∷ []))
     × ((logOf es .verdicts ≡ (done (record { bytes = 0; steps = endedSteps (logOf es) }) ∷ [])) ↔ (t ≡ bytes tagLength T))

@@ -3,17 +3,16 @@ use mathlib.Core.Path.{_≡_, refl}
 use mathlib.Core.Bool.{Bool, true, false}
 use mathlib.Core.List.{List}
 use Prim.Native.Nat.{ℕ}
-use Rattle.acorn_model.specs.declared.Answer.{Answer}
-use Rattle.acorn_model.specs.declared.Answer.the-variants.{Refused, Done}
-use Rattle.acorn_model.specs.Bits.{_if_else_}
+use Rattle.calls.specs.declared.Answer.{Answer}
+use Rattle.calls.specs.declared.Answer.the-variants.{Refused, Done}
+use Rattle.calls.specs.Calls.{_if_else_, Reply, refused, done, Work, Outcome, answerReply, refusedWith}
 use Rattle.acorn_model.specs.Stretches.{Stretch, inputs, through, dataEnd}
-use Rattle.acorn_model.specs.Calls.{Reply, refused, done, Work, Outcome, answerReply, refusedWith}
 use Rattle.acorn_model.specs.Machine.{Machine, Call, begin, dataCall, sealText, checkText, sealClose, checkClose, outputOf, isData, refusal}
 use Rattle.acorn_model.specs.Machine.{runThrough, enter, cleared, countData, countText, begun, dataTaken, dataEnded, textTaken, closed, wrote, work, call}
 use Rattle.tape_model.specs.Writer.{PlainWriter, WriterCall, start, add, finish, onAnswer, passedOn, started, writerCall}
 use Rattle.tape_model.specs.Writer as plain
 use Rattle.acorn_kernel.proofs.ClosedForm.{run-above}
-use Rattle.acorn_model.proofs.Refusals.{by-number}
+use Rattle.calls.proofs.Refusals.{by-number}
 use Rattle.session.specs.Words.{sessionFor}
 use Rattle.session.proofs.WordsBack.{Clear, session-stands}
 use Rattle.tape.specs.declared.Writer.{Writer}

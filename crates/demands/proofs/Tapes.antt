@@ -3,12 +3,12 @@
 use mathlib.Core.Path.{sym, ap, _∙_, subst}
 use mathlib.Core.List.{List}
 use Prim.Native.Nat.{ℕ}
-use Rattle.acorn_model.specs.Calls.{entries}
+use Rattle.calls.specs.Lists.{entries, AllAccepted}
 use Rattle.tape_model.specs.Writer.{WriterCall, freshWriter, writerCall}
 use Rattle.tape_model.specs.WriterLists.{WriterLog}
 use Rattle.tape_model.specs.Tape.{openTape}
 use Rattle.tape_model.proofs.Tapes.{tapes-come-back}
-use Rattle.call_lists.specs.WriterLists.{AllAccepted, writerLogFrom}
+use Rattle.call_lists.specs.WriterLists.{writerLogFrom}
 use Rattle.call_lists.proofs.WriterEvery.{every-tape-written}
 use Rattle.reader.proofs.Reading.{reading-laws}
 use Rattle.demands.specs.Tapes.{TicketsComeBack}

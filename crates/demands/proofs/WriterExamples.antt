@@ -4,8 +4,8 @@ use mathlib.Core.List.{List, [], _∷_}
 use Prim.Native.Nat.{ℕ, _≤_}
 use lib.ListN.{length, replicate}
 use borrow.Author.Tests.{le-ltb, eq-eqb}
-use Rattle.acorn_model.specs.Stretches.{tagLength}
-use Rattle.acorn_model.specs.Calls.{Reply, refused, done, Work, Entry, unlessRefused, refusedWith, entries, handedOn}
+use Rattle.calls.specs.Calls.{Reply, refused, done, Work, unlessRefused, refusedWith}
+use Rattle.calls.specs.Lists.{Entry, entries, handedOn, AllAccepted}
 use Rattle.acorn_model.specs.Machine.{keyLength, answered, wrote}
 use Rattle.acorn_model.specs.Machine.{work as machineWork}
 use Rattle.tape_model.specs.declared.WriterPhase.the-variants.{Closed}
@@ -15,8 +15,8 @@ use Rattle.tape_model.proofs.Refusals.{WriterPassed}
 use Rattle.call_lists.proofs.WriterReached.{fresh-writer-reached}
 use Rattle.call_lists.proofs.WriterAccepts.{machine-passed, comesTo, accepted-work}
 use Rattle.call_lists.proofs.WriterRuns.{HasRun, fresh-has-run, runs-on, comes}
-use Rattle.call_lists.specs.WriterLists.{AllAccepted}
 use Rattle.tape_model.specs.RefusalCases.{goodHead}
+use Rattle.tape_model.specs.Tape.{tapeTagLength}
 use Rattle.demands.specs.Examples.{Answers, SomeWriter, writerCalls, refusedWriterCalls, WriterExamples}
 use Rattle.demands.proofs.Writers.{writer-demand}
 use Rattle.demands.proofs.Exist.{writers-exist}
@@ -24,7 +24,7 @@ use Rattle.demands.proofs.AllPass.{AllPass, all-same}
 
 -- ## The list
 
-module _ (cs : List WriterCall) (P : List (Entry WriterCall) → PlainWriter → Type 0) where
+module _ (cs : List WriterCall) (P : List (Entry WriterCall Work) → PlainWriter → Type 0) where
   on-writer : P (entries writerCall freshWriter cs) (handedOn writerCall freshWriter cs) → SomeWriter cs P
   on-writer h =
       let x = writers-exist cs in
@@ -41,7 +41,7 @@ module _ (cs : List WriterCall) (P : List (Entry WriterCall) → PlainWriter →
       let e = all-same writerCall comesTo HasRun WriterPassed comes runs-on freshWriter cs fresh-has-run p in
       on-writer (subst₂ P (sym (e .0)) (sym (e .1)) h)
 
-tape : (key out ticketOut tagOut : List ℕ) → length key ≡ keyLength → headLength ≤ length out → ticketLength ≤ length ticketOut → tagLength ≤ length tagOut
+tape : (key out ticketOut tagOut : List ℕ) → length key ≡ keyLength → headLength ≤ length out → ticketLength ≤ length ticketOut → tapeTagLength ≤ length tagOut
     → SomeWriter (writerCalls key out ticketOut tagOut) (λ es w. AllAccepted es × (w .phase ≡ Closed))
 unfolding entries handedOn freshWriter phaseAllows keyRight headRight ticketRight tapeFull outputShort headRule ticketRule valuesRule ordered machineWork wrote answered
 tape key out ticketOut tagOut k h t g =
@@ -50,7 +50,7 @@ tape key out ticketOut tagOut k h t g =
       (
         record { phase = refl; key = refl; head = refl; ticket = refl; full = refl; output = le-ltb (length ticketOut) ticketLength t },
         (
-          record { phase = refl; key = refl; head = refl; ticket = refl; full = refl; output = le-ltb (length tagOut) tagLength g },
+          record { phase = refl; key = refl; head = refl; ticket = refl; full = refl; output = le-ltb (length tagOut) tapeTagLength g },
           tt,
         ),
       ),

@@ -4,7 +4,8 @@ use mathlib.Core.List.{List, [], _∷_, _++_}
 use Prim.Native.Nat.{ℕ, _≤_, _<_, _^_}
 use lib.ListN.{length}
 use Rattle.acorn_model.specs.declared.Kind.the-variants.{Sealing}
-use Rattle.acorn_model.specs.Calls.{Work, Outcome, answerReply, refusedWith, Entry, callsOf, entries, handedOn}
+use Rattle.calls.specs.Calls.{Work, Outcome, answerReply, refusedWith}
+use Rattle.calls.specs.Lists.{Entry, callsOf, entries, handedOn}
 use Rattle.acorn_model.specs.Machine.{Machine, fresh, Call, sealText, sealClose, work as machineWork, call}
 use Rattle.acorn_model.specs.Lists.{logOf}
 use Rattle.tape_model.specs.declared.WriterPhase.{WriterPhase}
@@ -15,7 +16,8 @@ use Rattle.tape_model.specs.Tape.{ticketLimit, tapeOf}
 use Rattle.tape_model.specs.WriterLists.{Started, WriterLog, writerLog, headsOf}
 use Rattle.tape_model.specs.Laws.{TapeLaws}
 use Rattle.call_lists.specs.WriterLists.{writerLogFrom}
-use Rattle.acorn_model.proofs.Refusals.{by-number, Passed, works}
+use Rattle.acorn_model.proofs.Refusals.{Passed, works}
+use Rattle.calls.proofs.Refusals.{by-number}
 use Rattle.tape_model.proofs.Refusals.{writer-passed}
 use Rattle.call_lists.proofs.WriterReached.{writer-small}
 use Rattle.call_lists.proofs.WriterAccepts.{MachinePassed, machine-passed, passedTo, comesTo, accepted-work, startedMachine}
@@ -26,9 +28,9 @@ use Rattle.session.specs.Contracts.{wrapped, wrappedReply, wrappedOutcome}
 use Rattle.session.proofs.Wrapping.{within, call-within}
 use Rattle.tape.specs.declared.Writer.{Writer}
 use Rattle.tape.specs.declared.WriterReply.{WriterReply}
-use Rattle.tape.specs.Contracts.{writerOf, outcomeOf, wrappedWriter, wrappedWriterOutcome, WriterCalled}
+use Rattle.tape.specs.Contracts.{writerOf, writerOutcome, wrappedWriter, wrappedWriterOutcome, WriterCalled}
 use Rattle.demands.specs.Writers.{WriterList, WriterDemand}
-use Rattle.demands.proofs.AsModel.{as-model}
+use Rattle.calls.proofs.Made.{as-model}
 
 -- ## Counts that do not wrap around
 
@@ -73,12 +75,12 @@ call-within-writer w c h =
 
 says : (w : Writer) (c : WriterCall) (r : WriterReply) (out : List ℕ) → HasRun (writerOf w) → WriterCalled w c r out
     → record { next = writerOf (r .writer); answer = answerReply (r .answer); out = out } ≡ writerCall (writerOf w) c
-unfolding outcomeOf
+unfolding writerOutcome
 says w c r out h k = k ∙ call-within-writer (writerOf w) c h
 
 -- ## Whole lists
 
-module _ (es : List (Entry WriterCall)) (e : Writer) (l : WriterList es e) where
+module _ (es : List (Entry WriterCall Work)) (e : Writer) (l : WriterList es e) where
   pub as-plain : (es ≡ entries writerCall freshWriter (callsOf es)) × (writerOf e ≡ handedOn writerCall freshWriter (callsOf es))
   as-plain =
       subst (λ (w : PlainWriter). (es ≡ entries writerCall w (callsOf es)) × (writerOf e ≡ handedOn writerCall w (callsOf es))) (l .isFresh)
@@ -92,7 +94,7 @@ module _ (es : List (Entry WriterCall)) (e : Writer) (l : WriterList es e) where
   pub same-log : writerLogFrom (callsOf es) ≡ writerLog es
   same-log = ap writerLog (sym (as-plain .0))
 
-tickets : (es : List (Entry WriterCall)) (e : Writer) → WriterList es e
+tickets : (es : List (Entry WriterCall Work)) (e : Writer) → WriterList es e
     → (writerOf e .tickets ≡ length (writerLog es .tickets)) × (length (writerLog es .tickets) ≤ ticketLimit)
 tickets es e l =
     subst₂ (λ (w : PlainWriter) (x : WriterLog). (w .tickets ≡ length (x .tickets)) × (length (x .tickets) ≤ ticketLimit))

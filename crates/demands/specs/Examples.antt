@@ -6,12 +6,12 @@ use Prim.Native.Nat.{ℕ, _≤_}
 use lib.ListN.{length, replicate}
 use Rattle.acorn_model.specs.declared.Kind.{Kind}
 use Rattle.acorn_model.specs.declared.Kind.the-variants.{Sealing, Checking}
-use Rattle.acorn_model.specs.declared.Written.{Written}
-use Rattle.acorn_model.specs.Bits.{AreBytes}
-use Rattle.acorn_model.specs.Stretches.{tagLength}
+use Rattle.calls.specs.declared.Written.{Written}
+use Rattle.calls.specs.Calls.{AreBytes}
 use Rattle.acorn_model.specs.Paper.{newTag}
-use Rattle.acorn_model.specs.Calls.{Reply, refused, done, Work, writtenReply, Entry, callsOf}
-use Rattle.acorn_model.specs.Machine.{Machine, Call, begin, dataCall, sealText, checkText, sealClose, checkClose, keyLength}
+use Rattle.calls.specs.Calls.{Reply, refused, done, Work, writtenReply}
+use Rattle.calls.specs.Lists.{Entry, callsOf, AllAccepted}
+use Rattle.acorn_model.specs.Machine.{tagLength, Machine, Call, begin, dataCall, sealText, checkText, sealClose, checkClose, keyLength}
 use Rattle.acorn_model.specs.Laws.{WithinLimits}
 use Rattle.acorn_model.specs.Lists.{logOf, Ended, Alike}
 use Rattle.tape_model.specs.declared.Ticket.{Ticket}
@@ -19,11 +19,10 @@ use Rattle.tape_model.specs.declared.Head.{Head}
 use Rattle.tape_model.specs.declared.OpenedTape.{OpenedTape}
 use Rattle.tape_model.specs.declared.WriterPhase.the-variants.{Closed}
 use Rattle.tape_model.specs.Ticket.{ticketLength, headLength, packHead}
-use Rattle.tape_model.specs.Tape.{nonceOf, openTape}
+use Rattle.tape_model.specs.Tape.{tapeTagLength, nonceOf, openTape}
 use Rattle.tape_model.specs.Writer.{PlainWriter, WriterCall, start, add, finish}
 use Rattle.tape_model.specs.Cases.{ticketWith}
 use Rattle.tape_model.specs.RefusalCases.{goodHead, goodTicket}
-use Rattle.call_lists.specs.WriterLists.{AllAccepted}
 use Rattle.session.specs.declared.Session.{Session}
 use Rattle.session.specs.declared.Reply.{Reply as SessionReply}
 use Rattle.session.specs.Contracts.{machineOf, Called}
@@ -45,27 +44,27 @@ abbrev pub WriterReplies : Type 0
 WriterReplies = (w : Writer) (c : WriterCall) → (r : WriterReply) × (out : List ℕ) × WriterCalled w c r out
 
 abbrev pub SessionsExist : Type 0
-SessionsExist = (kind : Kind) (cs : List Call) → (es : List (Entry Call)) × (e : Session) × SessionList kind es e × (callsOf es ≡ cs)
+SessionsExist = (kind : Kind) (cs : List Call) → (es : List (Entry Call Work)) × (e : Session) × SessionList kind es e × (callsOf es ≡ cs)
 
 abbrev pub WritersExist : Type 0
-WritersExist = (cs : List WriterCall) → (es : List (Entry WriterCall)) × (e : Writer) × WriterList es e × (callsOf es ≡ cs)
+WritersExist = (cs : List WriterCall) → (es : List (Entry WriterCall Work)) × (e : Writer) × WriterList es e × (callsOf es ≡ cs)
 
 -- ## Lists of sessions
 
 -- these calls can be made, and P holds of what comes of them: the entries, and the machine that the last session stands for
-abbrev pub SomeSession : Kind → List Call → (List (Entry Call) → Machine → Type 0) → Type 0
-SomeSession kind cs P = (es : List (Entry Call)) × (e : Session) × SessionList kind es e × (callsOf es ≡ cs) × P es (machineOf e)
+abbrev pub SomeSession : Kind → List Call → (List (Entry Call Work) → Machine → Type 0) → Type 0
+SomeSession kind cs P = (es : List (Entry Call Work)) × (e : Session) × SessionList kind es e × (callsOf es ≡ cs) × P es (machineOf e)
 
 -- every call of a list is accepted, and the last ends their session
-abbrev pub Finish : List (Entry Call) → Machine → Type 0
+abbrev pub Finish : List (Entry Call Work) → Machine → Type 0
 Finish es m = AllAccepted es × Ended m
 
 -- the answers are these
-abbrev pub Answers : {C M : Type 0} → List (Reply Work) → List (Entry C) → M → Type 0
+abbrev pub Answers : {C M : Type 0} → List (Reply Work) → List (Entry C Work) → M → Type 0
 Answers answers es m = map (λ e. e .answer) es ≡ answers
 
 -- the session ends, and its list is alike to another of its kind
-abbrev pub EndAlike : Kind → List (Entry Call) → List (Entry Call) → Machine → Type 0
+abbrev pub EndAlike : Kind → List (Entry Call Work) → List (Entry Call Work) → Machine → Type 0
 EndAlike kind es es′ m′ = Ended m′ × Alike kind (logOf es) (logOf es′)
 
 abbrev pub sealingCalls : (key nonce «data» text out tagOut : List ℕ) → List Call
@@ -112,8 +111,8 @@ pub record SessionExamples : Type 0 where
 
 -- ## Lists of writers
 
-abbrev pub SomeWriter : List WriterCall → (List (Entry WriterCall) → PlainWriter → Type 0) → Type 0
-SomeWriter cs P = (es : List (Entry WriterCall)) × (e : Writer) × WriterList es e × (callsOf es ≡ cs) × P es (writerOf e)
+abbrev pub SomeWriter : List WriterCall → (List (Entry WriterCall Work) → PlainWriter → Type 0) → Type 0
+SomeWriter cs P = (es : List (Entry WriterCall Work)) × (e : Writer) × WriterList es e × (callsOf es ≡ cs) × P es (writerOf e)
 
 -- the head of case (i), and the ticket of case (h)
 abbrev pub writerCalls : (key out ticketOut tagOut : List ℕ) → List WriterCall
@@ -132,7 +131,7 @@ refusedWriterCalls =
 pub record WriterExamples : Type 0 where
   -- start, add and finish, with room for what they write, are accepted and close the writer
   pub tape : (key out ticketOut tagOut : List ℕ) → length key ≡ keyLength
-      → headLength ≤ length out → ticketLength ≤ length ticketOut → tagLength ≤ length tagOut
+      → headLength ≤ length out → ticketLength ≤ length ticketOut → tapeTagLength ≤ length tagOut
       → SomeWriter (writerCalls key out ticketOut tagOut) (λ es w. AllAccepted es × (w .phase ≡ Closed))
   -- a list that is sent back with 1, 2, 3, 6 and 4
   pub refusals : SomeWriter refusedWriterCalls
@@ -156,7 +155,7 @@ OpeningReplies = (key tape out : List ℕ) → (r : OpenedTape) × (after : List
 -- 16 bytes behind a head that are not the tag of a tape of no tickets are answered with 7
 abbrev pub TapeSeven : Type 0
 TapeSeven =
-    (key tag out : List ℕ) → length key ≡ keyLength → length tag ≡ tagLength
+    (key tag out : List ℕ) → length key ≡ keyLength → length tag ≡ tapeTagLength
     → (tag ≡ newTag key (nonceOf (packHead goodHead)) (packHead goodHead) [] → ⊥) → openTape key (packHead goodHead ++ tag) out .answer ≡ refused 7
 
 -- ## All of it

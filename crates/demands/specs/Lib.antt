@@ -1,4 +1,3 @@
-pub mod CallsMade
 pub mod Sessions
 pub mod Writers
 pub mod Refusals

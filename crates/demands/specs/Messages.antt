@@ -5,11 +5,11 @@ use mathlib.Core.List.{List, _++_}
 use mathlib.Core.Logic.{_↔_}
 use Prim.Native.Nat.{ℕ, _+_, _-_, _≤_}
 use lib.ListN.{length}
-use Rattle.acorn_model.specs.declared.Written.{Written}
-use Rattle.acorn_model.specs.Bits.{Bits, AreBytes, bitsIn, bytes}
-use Rattle.acorn_model.specs.Stretches.{tagLength}
-use Rattle.acorn_model.specs.Calls.{done, refused, writtenReply, writtenOver}
-use Rattle.acorn_model.specs.Machine.{keyLength, nonceLength, byteLimit}
+use Rattle.calls.specs.declared.Written.{Written}
+use Rattle.acorn_model.specs.Bits.{Bits, bitsIn, bytes}
+use Rattle.calls.specs.Calls.{AreBytes}
+use Rattle.calls.specs.Calls.{done, refused, writtenReply, writtenOver}
+use Rattle.acorn_model.specs.Machine.{tagLength, keyLength, nonceLength, byteLimit}
 use Rattle.acorn_model.specs.Message.{sealMessage, tagMatches, openMessage}
 use Rattle.acorn_model.specs.Laws.{ByPaper, WithinLimits}
 

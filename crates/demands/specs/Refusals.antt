@@ -7,10 +7,10 @@ use Prim.Native.Nat.{ℕ, suc, _*_, _/_, _≤_, _<_, _^_}
 use lib.Dec.{leb, ltb, eqb}
 use lib.ListN.{length, take, drop}
 use Rattle.acorn_model.specs.declared.Kind.{Kind}
-use Rattle.acorn_model.specs.declared.Written.{Written}
-use Rattle.acorn_model.specs.Bits.{_if_else_}
+use Rattle.calls.specs.declared.Written.{Written}
+use Rattle.calls.specs.Calls.{Work, _if_else_, Reply, refused, done, accepted, unlessRefused, sameBytes, answerReply, writtenReply}
 use Rattle.acorn_model.specs.Stretches.{tagOf}
-use Rattle.acorn_model.specs.Calls.{Reply, refused, done, accepted, unlessRefused, sameBytes, answerReply, writtenReply, Entry}
+use Rattle.calls.specs.Lists.{Entry}
 use Rattle.acorn_model.specs.Machine.{Machine, fresh, Call, begin, dataCall, sealText, checkText, sealClose, checkClose, outputOf, keyLength, refusal, textEnded}
 use Rattle.acorn_model.specs.Lists.{Ended}
 use Rattle.acorn_model.specs.Message as message
@@ -23,7 +23,7 @@ use Rattle.tape_model.specs.declared.WriterPhase.the-variants.{Open}
 use Rattle.tape_model.specs.Format.{widths, inRanges, unpack}
 use Rattle.tape_model.specs.Ticket.{form1, ticketLength, valuesRule, ticketRule, packTicketInto, unpackTicket, ticketReply}
 use Rattle.tape_model.specs.Ticket.{headFormat, headLength, headRule, packHeadInto, unpackHead, headReply}
-use Rattle.tape_model.specs.Tape.{ticketLimit, nonceOf, ticketsLength, isRefused, tapeLength, headBytes, sealedBytes, ticketCount, openRefusal, openTape, openedReply}
+use Rattle.tape_model.specs.Tape.{ticketLimit, nonceOf, isTicketsLength, isRefused, isTapeLength, headBytes, sealedBytes, ticketCount, openTapeRefusal, openTape, openedReply}
 use Rattle.tape_model.specs.Writer.{WriterCall, add}
 use Rattle.tape_model.specs.Writer as plain
 use Rattle.tape_model.specs.WriterLists.{writerLog}
@@ -91,7 +91,7 @@ module _ (w : Writer) (c : WriterCall) (r : WriterReply) (out : List ℕ) (calle
     -- on any value of the struct, the smallest number that applies is given
     pub number : (n : ℕ) → plain.refusal (writerOf w) c ≡ suc n → answerReply (r .answer) ≡ refused (suc n)
     -- and only then, on a writer that calls led to from a fresh one
-    pub exactly : (es : List (Entry WriterCall)) → WriterList es w → AnsweredBy (plain.refusal (writerOf w) c) (answerReply (r .answer))
+    pub exactly : (es : List (Entry WriterCall Work)) → WriterList es w → AnsweredBy (plain.refusal (writerOf w) c) (answerReply (r .answer))
     -- a refused call leaves writer and lent bytes unchanged
     pub unchanged : (n : ℕ) → Counts64 (writerOf w .machine .counts .steps) → answerReply (r .answer) ≡ refused n
         → (writerOf (r .writer) ≡ writerOf w) × (out ≡ plain.outputOf c)
@@ -118,11 +118,11 @@ UnpacksHead string r = headReply r ≡ unpackHead string
 
 module _ (key tape out after : List ℕ) (r : OpenedTape) (opened : OpensTape key tape out r after) where
   pub record OpeningRefusals : Type 0 where
-    pub number : AnsweredBy (openRefusal key tape out) (openedReply r)
+    pub number : AnsweredBy (openTapeRefusal key tape out) (openedReply r)
     -- a refused opening leaves its output as it was
     pub unchanged : (n : ℕ) → openedReply r ≡ refused n → after ≡ out
     -- where the tag differs and no smaller number applies, the answer is 7
-    pub seven : length key ≡ keyLength → tapeLength (length tape) ≡ true → isRefused (unpackHead (headBytes tape)) ≡ false
+    pub seven : length key ≡ keyLength → isTapeLength (length tape) ≡ true → isRefused (unpackHead (headBytes tape)) ≡ false
         → ticketLength * ticketCount tape ≤ length out → message.tagMatches key (nonceOf (headBytes tape)) (headBytes tape) (sealedBytes tape) ≡ false
         → openedReply r ≡ refused 7
 
@@ -131,7 +131,7 @@ module _ (key tape out after : List ℕ) (r : OpenedTape) (opened : OpensTape ke
 -- the smallest number that applies to a reader's call: 2, or 8 where there is a ticket before it that does not unpack
 abbrev pub readerNumber : model.Reader → ℕ
 readerNumber r =
-    2 if not (ticketsLength (length (r .string))) else
+    2 if not (isTicketsLength (length (r .string))) else
     accepted if leb (length (r .string) / ticketLength) (r .position) else
     8 if isRefused (unpackTicket (take ticketLength (drop (ticketLength * r .position) (r .string)))) else
     accepted
@@ -149,7 +149,7 @@ pub record RefusalDemand : Type 0 where
   pub fresh-writer-count : (w : Writer) → writerOf w ≡ plain.freshWriter → Counts64 (writerOf w .machine .counts .steps)
   pub writers : (w : Writer) (c : WriterCall) (r : WriterReply) (out : List ℕ) (called : WriterCalled w c r out) → WriterRefusals w c r out called
   -- the 5,001st ticket
-  pub ticket-5001 : (es : List (Entry WriterCall)) (w : Writer) → WriterList es w → writerOf w .phase ≡ Open → length (writerLog es .tickets) ≡ ticketLimit
+  pub ticket-5001 : (es : List (Entry WriterCall Work)) (w : Writer) → WriterList es w → writerOf w .phase ≡ Open → length (writerLog es .tickets) ≡ ticketLimit
       → (t : Ticket) (out after : List ℕ) (r : WriterReply) → ticketRule t ≡ true → WriterCalled w (add t out) r after
       → answerReply (r .answer) ≡ refused 5
   -- whole messages
@@ -165,7 +165,7 @@ pub record RefusalDemand : Type 0 where
       → message.openRefusal key nonce «data» sealedBytes out ≡ 7 → message.openRefusal key′ nonce′ data′ sealedBytes′ out ≡ 7
       → (writtenReply r ≡ writtenReply r′) × (after ≡ after′)
   pub tape-sevens : (key key′ tape tape′ out after after′ : List ℕ) (r r′ : OpenedTape) → OpensTape key tape out r after → OpensTape key′ tape′ out r′ after′
-      → openRefusal key tape out ≡ 7 → openRefusal key′ tape′ out ≡ 7 → (openedReply r ≡ openedReply r′) × (after ≡ after′)
+      → openTapeRefusal key tape out ≡ 7 → openTapeRefusal key′ tape′ out ≡ 7 → (openedReply r ≡ openedReply r′) × (after ≡ after′)
   pub readers : (r : Reader) (h : ReaderReply) (called : NextCalled r h) → ReaderRefusals r h called
   -- tickets and heads by themselves
   pub packing : (t : Ticket) (out after : List ℕ) (r : Written) → PacksTicket t out r after

@@ -6,7 +6,8 @@ use mathlib.Core.List.{List}
 use Prim.Native.Nat.{ℕ, _*_, _≤_}
 use lib.ListN.{length, take}
 use denote.Ref.{RefT, now}
-use Rattle.acorn_model.specs.Calls.{done, writtenOver, Entry, callsOf}
+use Rattle.calls.specs.Calls.{Work, done, writtenOver}
+use Rattle.calls.specs.Lists.{Entry, callsOf, AllAccepted}
 use Rattle.acorn_model.specs.Machine.{keyLength}
 use Rattle.tape_model.specs.declared.Ticket.{Ticket}
 use Rattle.tape_model.specs.declared.Head.{Head}
@@ -17,14 +18,14 @@ use Rattle.tape_model.specs.Writer.{WriterCall}
 use Rattle.tape_model.specs.WriterLists.{writerLog}
 use Rattle.tape_model.specs.Reader.{atEnd}
 use Rattle.tape_model.specs.Laws.{Valid}
-use Rattle.call_lists.specs.WriterLists.{AllAccepted, TapeOutputs, RoomFor, tapeCalls}
+use Rattle.call_lists.specs.WriterLists.{TapeOutputs, RoomFor, tapeCalls}
 use Rattle.tape.specs.declared.Writer.{Writer}
 use Rattle.reader.specs.Reading.{HandsOut}
 use Rattle.demands.specs.Writers.{WriterList}
 use Rattle.demands.specs.Refusals.{OpensTape}
 
 -- what calls es of a writer came to, on the tape of this key, head and tickets
-pub record ComesBack (key : List ℕ) (head : Head) (tickets : List Ticket) (es : List (Entry WriterCall)) : Type 0 where
+pub record ComesBack (key : List ℕ) (head : Head) (tickets : List Ticket) (es : List (Entry WriterCall Work)) : Type 0 where
   -- every call is accepted, and the bytes written over the list are the tape
   pub accepted : AllAccepted es
   pub written : writerLog es .written ≡ tapeOf key head tickets
@@ -41,5 +42,5 @@ abbrev pub TicketsComeBack : Type 0
 TicketsComeBack = (key : List ℕ) (head : Head) (tickets : List Ticket)
     → length key ≡ keyLength → headRule head ≡ true → Valid tickets → length tickets ≤ ticketLimit
     → (outs : TapeOutputs) → RoomFor (length tickets) outs
-    → (es : List (Entry WriterCall)) (e : Writer) → WriterList es e → callsOf es ≡ tapeCalls key head tickets outs
+    → (es : List (Entry WriterCall Work)) (e : Writer) → WriterList es e → callsOf es ≡ tapeCalls key head tickets outs
     → ComesBack key head tickets es

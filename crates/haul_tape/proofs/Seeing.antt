@@ -2,14 +2,12 @@
 use mathlib.Core.Path.{_≡_, ap, sym, _∙_}
 use mathlib.Core.List.{List, []}
 use Prim.Native.Nat.{ℕ}
-use Rattle.acorn_model.specs.Calls.{Reply, Work, Outcome, answerReply}
-use Rattle.acorn_model.specs.Bits.{_if_else_}
+use Rattle.calls.specs.Calls.{Reply, Work, Outcome, answerReply, _if_else_, Result, sentBack}
 use Rattle.acorn_model.specs.Machine.{Call, call}
-use Rattle.acorn_model.specs.Message.{Result}
 use Rattle.tape_model.specs.Writer.{WriterCall, writerCall}
 use Rattle.session.specs.declared.Session.{Session}
 use Rattle.session.specs.declared.Reply.{Reply as SessionReply}
-use Rattle.session.specs.Contracts.{machineOf, outcomeOf, wrappedOutcome, Called}
+use Rattle.session.specs.Contracts.{machineOf, sessionOutcome, wrappedOutcome, Called}
 use Rattle.session.specs.Words.{sessionIn, machineIn, wordsFor}
 use Rattle.tape.specs.declared.Writer.{Writer}
 use Rattle.tape.specs.declared.WriterReply.{WriterReply}
@@ -17,7 +15,7 @@ use Rattle.tape.specs.Contracts as tape
 use Rattle.tape.specs.Contracts.{writerOf, wrappedWriterOutcome, WriterCalled}
 use Rattle.tape.specs.Words.{writerIn, plainWriterIn, writerWordsFor}
 use Rattle.c_answers.specs.declared.HtAnswer.{HtAnswer}
-use Rattle.c_answers.specs.Answers.{answerNumbers, sentBack}
+use Rattle.c_answers.specs.Answers.{answerNumbers}
 use Rattle.haul_tape.specs.Contracts.{wordsAfter, Seen, SessionSeen, WriterSeen, ResultSeen}
 
 -- ## Calls on words
@@ -31,19 +29,19 @@ seen wordsFor words o next reply after answer out comes stored told =
     (stored ∙ ap (λ x. wordsAfter wordsFor words x) comes, told ∙ ap (λ x. answerNumbers (x .answer)) comes, ap (λ x. x .out) comes)
 
 pub session-seen : (words after : List ℕ) (s : Session) (c : Call) (r : SessionReply) (answer : HtAnswer) (out : List ℕ)
-    → s ≡ sessionIn words → Called s c r out → after ≡ wordsAfter wordsFor words (outcomeOf r []) → answer ≡ answerNumbers (answerReply (r .answer))
+    → s ≡ sessionIn words → Called s c r out → after ≡ wordsAfter wordsFor words (sessionOutcome r []) → answer ≡ answerNumbers (answerReply (r .answer))
     → SessionSeen words c after answer out
-unfolding machineIn outcomeOf wordsAfter
+unfolding machineIn sessionOutcome wordsAfter
 session-seen words after s c r answer out held called stored told =
-    let comes : outcomeOf r out ≡ wrappedOutcome (call (machineOf (sessionIn words)) c) = called ∙ ap (λ x. wrappedOutcome (call (machineOf x) c)) held in
+    let comes : sessionOutcome r out ≡ wrappedOutcome (call (machineOf (sessionIn words)) c) = called ∙ ap (λ x. wrappedOutcome (call (machineOf x) c)) held in
     seen wordsFor words _ (machineOf (r .session)) (answerReply (r .answer)) after answer out comes stored told
 
 pub writer-seen : (words after : List ℕ) (w : Writer) (c : WriterCall) (r : WriterReply) (answer : HtAnswer) (out : List ℕ)
-    → w ≡ writerIn words → WriterCalled w c r out → after ≡ wordsAfter writerWordsFor words (tape.outcomeOf r []) → answer ≡ answerNumbers (answerReply (r .answer))
+    → w ≡ writerIn words → WriterCalled w c r out → after ≡ wordsAfter writerWordsFor words (tape.writerOutcome r []) → answer ≡ answerNumbers (answerReply (r .answer))
     → WriterSeen words c after answer out
-unfolding plainWriterIn tape.outcomeOf wordsAfter
+unfolding plainWriterIn tape.writerOutcome wordsAfter
 writer-seen words after w c r answer out held called stored told =
-    let comes : tape.outcomeOf r out ≡ wrappedWriterOutcome (writerCall (writerOf (writerIn words)) c) = called ∙ ap (λ x. wrappedWriterOutcome (writerCall (writerOf x) c)) held in
+    let comes : tape.writerOutcome r out ≡ wrappedWriterOutcome (writerCall (writerOf (writerIn words)) c) = called ∙ ap (λ x. wrappedWriterOutcome (writerCall (writerOf x) c)) held in
     seen writerWordsFor words _ (writerOf (r .writer)) (answerReply (r .answer)) after answer out comes stored told
 
 -- ## Results

@@ -2,15 +2,13 @@
 use mathlib.Core.Path.{_≡_}
 use mathlib.Core.List.{List}
 use Prim.Native.Nat.{ℕ}
-use Rattle.acorn_model.specs.Bits.{_if_else_}
-use Rattle.acorn_model.specs.Calls.{Reply, Work, Outcome}
+use Rattle.calls.specs.Calls.{_if_else_, Reply, Work, Outcome, Result, sentBack}
 use Rattle.acorn_model.specs.Machine.{Call, call}
-use Rattle.acorn_model.specs.Message.{Result}
 use Rattle.tape_model.specs.Writer.{WriterCall, writerCall}
 use Rattle.tape_model.specs.Reader.{ReadOutcome}
 use Rattle.c_answers.specs.declared.HtAnswer.{HtAnswer}
 use Rattle.c_answers.specs.declared.HtReading.{HtReading}
-use Rattle.c_answers.specs.Answers.{answerNumbers, readingNumbers, sentBack}
+use Rattle.c_answers.specs.Answers.{answerNumbers, readingNumbers}
 use Rattle.session.specs.Contracts.{wrappedOutcome}
 use Rattle.session.specs.Words.{machineIn, wordsFor}
 use Rattle.tape.specs.Contracts.{wrappedWriterOutcome}

@@ -23,7 +23,7 @@ use tape_model::Ticket;
 ghost use mathlib.Core.Path.{_≡_};
 ghost use mathlib.Core.List.{[]};
 ghost use Rattle.acorn_model.specs.declared.Kind.the-variants.{Sealing, Checking};
-ghost use Rattle.acorn_model.specs.Calls.{answerReply};
+ghost use Rattle.calls.specs.Calls.{answerReply, putInto};
 ghost use Rattle.acorn_model.specs.Machine as machine;
 ghost use Rattle.acorn_model.specs.Message.{sealMessage, openMessage};
 ghost use Rattle.tape_model.specs.Ticket.{packTicketInto, unpackTicket, packHeadInto, unpackHead};
@@ -31,8 +31,7 @@ ghost use Rattle.tape_model.specs.Tape.{openTape};
 ghost use Rattle.tape_model.specs.Writer as plain;
 ghost use Rattle.tape_model.specs.Reader.{readNext};
 ghost use Rattle.tape_model.specs.Listing.{listing as tapeListing};
-ghost use Rattle.ticket.specs.Packing.{putInto};
-ghost use Rattle.session.specs.Contracts.{outcomeOf};
+ghost use Rattle.session.specs.Contracts.{sessionOutcome};
 ghost use Rattle.session.specs.Words.{wordsFor};
 ghost use Rattle.tape.specs.Contracts as tape;
 ghost use Rattle.tape.specs.Words.{writerWordsFor};
@@ -87,7 +86,7 @@ pub extern "C" fn ht_session_fresh_checking(s: &mut [u64; 10])
 // The session after a call goes into its words, unless the call was sent back; and the answer into numbers.
 fn session_handed_back(s: &mut [u64; 10], reply: Reply) -> HtAnswer
     ensures { λ r. ⌜ r ≡ answerNumbers (answerReply (reply .answer)) ⌝ }
-    ensures { λ _. ⌜ now (s .exit) ≡ wordsAfter wordsFor (now (s .entry)) (outcomeOf reply []) ⌝ }
+    ensures { λ _. ⌜ now (s .exit) ≡ wordsAfter wordsFor (now (s .entry)) (sessionOutcome reply []) ⌝ }
 {
     let after = reply.session;
     let answer = reply.answer;
@@ -189,7 +188,7 @@ pub extern "C" fn ht_writer_fresh(w: &mut [u64; 12])
 // The writer after a call goes into its words, unless the call was sent back; and the answer into numbers.
 fn writer_handed_back(w: &mut [u64; 12], reply: WriterReply) -> HtAnswer
     ensures { λ r. ⌜ r ≡ answerNumbers (answerReply (reply .answer)) ⌝ }
-    ensures { λ _. ⌜ now (w .exit) ≡ wordsAfter writerWordsFor (now (w .entry)) (tape.outcomeOf reply []) ⌝ }
+    ensures { λ _. ⌜ now (w .exit) ≡ wordsAfter writerWordsFor (now (w .entry)) (tape.writerOutcome reply []) ⌝ }
 {
     let after = reply.writer;
     let answer = reply.answer;

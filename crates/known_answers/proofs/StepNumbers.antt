@@ -7,10 +7,12 @@ use native.Mathlib.Nat.{mod-lt}
 use native.Mathlib.Omega.{arith}
 use lib.Pow.{pow-pos, high, low}
 use borrow.Author.Tests.{ne-eqb}
-use Rattle.acorn_model.specs.Bits.{Bits, _⊕_, _if_else_, bit}
+use Rattle.acorn_model.specs.Bits.{Bits, _⊕_, bit}
+use Rattle.calls.specs.Calls.{_if_else_}
 use Rattle.acorn_model.specs.Step.{_⊕=_and_, lfsrUpdate, keystreamBit, feedbackBit, step, StepInput, stepOn, run}
 use Rattle.acorn_model.specs.Laws.{SameState}
-use Rattle.acorn_model.proofs.Numbers.{lt-or-ge, bit-mod, bit-shift, bit-suc, bit-lowest, half}
+use Rattle.acorn_model.proofs.Numbers.{bit-mod, bit-shift, bit-suc, bit-lowest, half}
+use Rattle.calls.proofs.Choices.{lt-or-ge}
 use Rattle.acorn_model.proofs.States.{same-stepOn}
 
 -- ## Numbers joined

@@ -1,5 +1,5 @@
 // Lists a tape: reads a key of 16 bytes and then a tape from standard input, and prints the listing.
-use acorn_model::Written;
+use calls::Written;
 use libc::STDIN_FILENO;
 use libc::STDOUT_FILENO;
 ghost use mathlib.Core.Path.{_≡_};

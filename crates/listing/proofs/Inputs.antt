@@ -9,14 +9,12 @@ use lib.Dec.{eqb, leb}
 use lib.ListN.{length, take, drop, length-take, length-drop, drop-of-length-le}
 use lib.Seq.{take-all, take-length, drop-length}
 use borrow.Author.Tests.{lt-leb, ne-eqb}
-use Rattle.acorn_model.specs.Bits.{_if_else_}
-use Rattle.acorn_model.specs.declared.Written.{Written}
-use Rattle.acorn_model.specs.Calls.{refused, done, writtenReply, writtenOver}
+use Rattle.calls.specs.Calls.{_if_else_, refused, done, writtenReply, writtenOver, Result}
+use Rattle.calls.specs.declared.Written.{Written}
 use Rattle.acorn_model.specs.Machine.{keyLength}
-use Rattle.acorn_model.specs.Message.{Result}
-use Rattle.acorn_model.proofs.Numbers.{lt-or-ge}
+use Rattle.calls.proofs.Choices.{lt-or-ge}
 use Rattle.tape_model.specs.Ticket.{ticketLength}
-use Rattle.tape_model.specs.Tape.{ticketLimit, ticketsLength, emptyTapeLength, tapeLength, tapeOf, openRefusal}
+use Rattle.tape_model.specs.Tape.{ticketLimit, isTicketsLength, emptyTapeLength, isTapeLength, tapeOf, openTapeRefusal}
 use Rattle.tape_model.specs.Listing.{refusedLine, listingUnless, listing, printed}
 use Rattle.tape_model.proofs.Tapes.{tapes-come-back}
 use Rattle.listing.specs.Contracts.{Wrote, Listed, textRoom}
@@ -45,8 +43,8 @@ module _ (s : List ℕ) (r k : ℕ) (few : length s ≤ k → r ≡ length s) (m
 
 -- ## Inputs that are too long
 
-too-many : (n : ℕ) → ticketLength * ticketLimit < n → ticketsLength n ≡ false
-unfolding ticketsLength
+too-many : (n : ℕ) → ticketLength * ticketLimit < n → isTicketsLength n ≡ false
+unfolding isTicketsLength
 too-many n h =
     ⊎-elim (λ (p : ticketLimit < n / ticketLength). ap (λ (b : Bool). eqb (n % ticketLength) 0 && b) (lt-leb (n / ticketLength) ticketLimit p) ∙ none (eqb (n % ticketLength) 0))
     (λ (p : n / ticketLength ≤ ticketLimit). ap (λ (b : Bool). b && leb (n / ticketLength) ticketLimit) (ne-eqb (n % ticketLength) 0 (λ e. omega arith)))
@@ -57,10 +55,10 @@ too-many n h =
     none false = refl
 
 long-refused : (key tape : List ℕ) → emptyTapeLength + ticketLength * ticketLimit < length tape → listing key tape ≡ refusedLine 2
-unfolding listing listingUnless openRefusal tapeLength
+unfolding listing listingUnless openTapeRefusal isTapeLength
 long-refused key tape h =
     ap (λ (n : ℕ). listingUnless n key tape)
-    (by (eqb (length key) keyLength) (leb emptyTapeLength (length tape)) (ticketsLength (length tape - emptyTapeLength)) _ (too-many (length tape - emptyTapeLength) (omega arith)))
+    (by (eqb (length key) keyLength) (leb emptyTapeLength (length tape)) (isTicketsLength (length tape - emptyTapeLength)) _ (too-many (length tape - emptyTapeLength) (omega arith)))
   where
     by : (a b c : Bool) (n : ℕ) → c ≡ false → (2 if not (a && (b && c)) else n) ≡ 2
     by true true c n e = rw e

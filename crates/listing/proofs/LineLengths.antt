@@ -6,11 +6,11 @@ use Prim.Native.Nat.{ℕ, zero, suc, _+_, _/_, _%_, _^_, _≤_, _<_}
 use native.Mathlib.Omega.{arith}
 use lib.Dec.{ltb}
 use lib.ListN.{length, length-append}
-use Rattle.acorn_model.specs.Bits.{_if_else_}
+use Rattle.calls.specs.Calls.{_if_else_}
 use Rattle.tape_model.specs.declared.Ticket.{Ticket}
 use Rattle.tape_model.specs.declared.Head.{Head}
 use Rattle.tape_model.specs.Ticket.{net}
-use Rattle.tape_model.specs.Listing.{space, lineEnd, wordTape, wordTotal, wordRefused, decimalBelow, decimal, numbers, headLine, ticketNumbers, ticketLine, totalsLine, refusedLine}
+use Rattle.tape_model.specs.Listing.{space, lineEnd, wordTape, wordTotal, wordRefused, decimalBelow, decimal, numbers, headLine, listedNumbers, ticketLine, totalsLine, refusedLine}
 use Rattle.tape_model.proofs.Listing.{decimal-one, decimal-more}
 
 -- ## Digits
@@ -71,7 +71,7 @@ unfolding ticketLine
 ticket-length p t =
     omega (
       arith,
-      line-length (decimal p) (ticketNumbers t),
+      line-length (decimal p) (listedNumbers t),
       number-length (t .truck) (t .shovel ∷ t .tip ∷ t .grade ∷ t .loaded ∷ t .tipped ∷ net t ∷ []),
       number-length (t .shovel) (t .tip ∷ t .grade ∷ t .loaded ∷ t .tipped ∷ net t ∷ []),
       number-length (t .tip) (t .grade ∷ t .loaded ∷ t .tipped ∷ net t ∷ []),

@@ -5,13 +5,13 @@ use Prim.Native.Nat.{ℕ, zero, suc, _+_, _*_, _^_, _≤_, _<_}
 use native.Mathlib.Omega.{arith}
 use lib.Dec.{eqb}
 use lib.ListN.{length, take, drop, replicate, length-append}
-use Rattle.acorn_model.specs.Calls.{Reply, refused, done}
-use Rattle.acorn_model.proofs.Choices.{both}
+use Rattle.calls.specs.Calls.{Reply, refused, done}
+use Rattle.calls.proofs.Choices.{both}
 use Rattle.tape_model.specs.declared.Ticket.{Ticket}
 use Rattle.tape_model.specs.declared.Head.{Head}
 use Rattle.tape_model.specs.Format.{widths, inRanges, unpack}
 use Rattle.tape_model.specs.Ticket.{form1, ticketLength, ticketOf, ordered, valuesRule, net, unpackTicket, headFormat, headLength, headOf, unpackHead}
-use Rattle.tape_model.specs.Tape.{ticketLimit, unpackTickets, ticketsIn, totalNet, headBytes, ticketCount, plainBytes, openRefusal}
+use Rattle.tape_model.specs.Tape.{ticketLimit, unpackTickets, ticketsIn, totalNet, headBytes, ticketCount, plainBytes, openTapeRefusal}
 use Rattle.tape_model.specs.Listing.{headLine, ticketLine, ticketLines, totalLine, refusedLine, listed, listingUnless, listing}
 use Rattle.tape_model.proofs.Ranges.{in-ranges}
 use Rattle.tape_model.proofs.Inverses.{unpack-passed}
@@ -120,9 +120,9 @@ listed-length (done h) ts short few s =
 
 pub longest : (key tape : List ℕ) → length (listing key tape) ≤ textRoom
 unfolding listing listingUnless
-longest key tape = by (openRefusal key tape (replicate (length tape) 0)) refl
+longest key tape = by (openTapeRefusal key tape (replicate (length tape) 0)) refl
   where
-    by : (n : ℕ) → openRefusal key tape (replicate (length tape) 0) ≡ n → length (listingUnless n key tape) ≤ textRoom
+    by : (n : ℕ) → openTapeRefusal key tape (replicate (length tape) 0) ≡ n → length (listingUnless n key tape) ≤ textRoom
     by zero e =
         let t = told (unpackTickets (ticketCount tape) (plainBytes key tape)) (tickets-good key tape _ e) in
         listed-length (unpackHead (headBytes tape)) _ (head-short (headBytes tape))

@@ -7,15 +7,13 @@ use native.Mathlib.Omega.{arith}
 use lib.Dec.{eqb}
 use lib.ListN.{length, take, replicate, length-replicate}
 use borrow.Author.Tests.{le-ltb}
-use Rattle.acorn_model.specs.Bits.{_if_else_}
-use Rattle.acorn_model.specs.Calls.{Reply, refused, done, writtenOver}
+use Rattle.calls.specs.Calls.{_if_else_, Reply, refused, done, writtenOver, Result}
 use Rattle.acorn_model.specs.Machine.{keyLength}
-use Rattle.acorn_model.specs.Message.{Result}
-use Rattle.acorn_model.proofs.Messages.{refused-told, done-told}
+use Rattle.calls.proofs.Results.{refused-told, done-told}
 use Rattle.tape_model.specs.declared.Ticket.{Ticket}
 use Rattle.tape_model.specs.declared.Head.{Head}
 use Rattle.tape_model.specs.Ticket.{ticketLength, unpackHead}
-use Rattle.tape_model.specs.Tape.{unpackTickets, isRefused, ticketsIn, totalNet, Totals, tapeLength, headBytes, ticketCount, plainBytes, openRefusal, openTape}
+use Rattle.tape_model.specs.Tape.{unpackTickets, isRefused, ticketsIn, totalNet, Totals, isTapeLength, headBytes, ticketCount, plainBytes, openTapeRefusal, openTape}
 use Rattle.tape_model.specs.Listing.{refusedLine, listed, listingUnless, listing}
 use Rattle.tape_model.proofs.Opening.{TapeSize, sizes-told, text-length, tickets-good, plain-count, plain-sized, was-accepted, net-is, front}
 use Rattle.tape.specs.Contracts.{scratchAfter, openScratch}
@@ -47,7 +45,7 @@ same-but-room false false c c′ n h = ap (λ (x : Bool). 6 if x else n) (h refl
 
 module _ (key tape : List ℕ) where
   abbrev sizes-wrong : Bool
-  sizes-wrong = not (eqb (length key) keyLength && tapeLength (length tape))
+  sizes-wrong = not (eqb (length key) keyLength && isTapeLength (length tape))
 
   abbrev enough : List ℕ
   enough = replicate (length tape) 0
@@ -57,11 +55,11 @@ module _ (key tape : List ℕ) where
   ticket-bytes s = (omega (arith, text-length (length tape) s), omega (arith, s .few))
 
   -- outputs with room for them are refused alike
-  room-enough : (out : List ℕ) → longestPlain ≤ length out → openRefusal key tape out ≡ openRefusal key tape enough
-  unfolding openRefusal
+  room-enough : (out : List ℕ) → longestPlain ≤ length out → openTapeRefusal key tape out ≡ openTapeRefusal key tape enough
+  unfolding openTapeRefusal
   room-enough out room =
       same-but-room sizes-wrong (isRefused (unpackHead (headBytes tape))) _ _ _
-      (λ e. let t = ticket-bytes (sizes-told key (length tape) (tapeLength (length tape)) refl e .1) in
+      (λ e. let t = ticket-bytes (sizes-told key (length tape) (isTapeLength (length tape)) refl e .1) in
       le-ltb (length out) (ticketLength * ticketCount tape) (omega (arith, t .1)) ∙ sym (le-ltb (length enough) (ticketLength * ticketCount tape) (omega (arith, t .0, length-replicate {A = ℕ} (length tape) 0))))
 
   -- what the listing is where opening is refused
@@ -69,12 +67,12 @@ module _ (key tape : List ℕ) where
   unfolding openTape listing listingUnless
   refused-listing out n after room e = let t = refused-told _ _ _ out n after e in by n (sym (room-enough out room) ∙ t .0) (λ z. t .1 (t .0 ∙ z))
     where
-      by : (m : ℕ) → openRefusal key tape enough ≡ m → (m ≡ 0 → ⊥) → refusedLine m ≡ listingUnless (openRefusal key tape enough) key tape
+      by : (m : ℕ) → openTapeRefusal key tape enough ≡ m → (m ≡ 0 → ⊥) → refusedLine m ≡ listingUnless (openTapeRefusal key tape enough) key tape
       by zero f z = absurd (z refl)
       by (suc m) f z = rw f
 
   -- where no number applies
-  module _ (out : List ℕ) (accepted : openRefusal key tape out ≡ 0) where
+  module _ (out : List ℕ) (accepted : openTapeRefusal key tape out ≡ 0) where
     plain-unpacked : unpacked (plainBytes key tape) ≡ unpackTickets (ticketCount tape) (plainBytes key tape)
     unfolding unpacked
     plain-unpacked = ap (λ (n : ℕ). unpackTickets n (plainBytes key tape)) (plain-count key tape out accepted)
@@ -89,7 +87,7 @@ module _ (key tape : List ℕ) where
 
   -- what opening answers and writes, and the listing by it
   module _ (out : List ℕ) (k : Totals) (after : List ℕ) (room : longestPlain ≤ length out) (e : openTape key tape out ≡ record { answer = done k; out = after }) where
-    accepted : openRefusal key tape out ≡ 0
+    accepted : openTapeRefusal key tape out ≡ 0
     accepted = was-accepted key tape out k after e
 
     pub opened-tickets : PlainTickets (take (ticketLength * k .tickets) after) (k .net)

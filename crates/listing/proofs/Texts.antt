@@ -7,13 +7,12 @@ use lib.ListN.{length, getD, set, take, drop, length-append, length-take, length
 use lib.Seq.{drop-cons, set-at, take-suc, take-length}
 use borrow.Rule.Slice.PartMut.{putMid}
 use borrow.Author.Tests.{le-ltb, lt-ltb}
-use Rattle.acorn_model.specs.declared.Written.the-variants.{Refused, Done}
-use Rattle.acorn_model.specs.Calls.{done, writtenReply, writtenOver}
-use Rattle.acorn_model.proofs.Messages.{result-written, result-refused}
-use Rattle.acorn_model.proofs.Writing.{written-length, written-behind}
+use Rattle.calls.specs.declared.Written.the-variants.{Refused, Done}
+use Rattle.calls.specs.Calls.{done, writtenReply, writtenOver, putInto}
+use Rattle.calls.proofs.Results.{result-written, result-refused}
+use Rattle.calls.proofs.Writing.{written-length, written-behind}
 use Rattle.tape_model.specs.Listing.{space, lineEnd, decimal, numbers}
 use Rattle.tape_model.proofs.Listing.{decimal-one, decimal-more}
-use Rattle.ticket.specs.Packing.{putInto}
 use Rattle.listing.specs.Contracts.{Wrote, Listed}
 
 -- ## Any text

@@ -15,24 +15,24 @@ use denote.Enum.Declared.{declared, tagOf}
 use Rattle.tape_model.specs.declared.NextTicket.{NextTicket}
 use Rattle.tape_model.specs.declared.NextTicket.the-variants.{Refused, Done, End}
 use Rattle.tape_model.proofs.NextTicket.{enum as next-ticket}
-use Rattle.acorn_model.specs.Calls.{done}
-use Rattle.acorn_model.proofs.Choices.{both}
-use Rattle.tape_model.specs.Tape.{ticketLimit, ticketsLength, unpackTickets, isRefused, ticketsIn}
+use Rattle.calls.specs.Calls.{done}
+use Rattle.calls.proofs.Choices.{both}
+use Rattle.tape_model.specs.Tape.{ticketLimit, isTicketsLength, unpackTickets, isRefused, ticketsIn}
 use Rattle.tape_model.specs.Reader.{ticket, handedOut, readNext, nextReply}
-use Rattle.tape_model.specs.Listing.{lineEnd, decimal, numbers, ticketNumbers, ticketLine, ticketLines}
+use Rattle.tape_model.specs.Listing.{lineEnd, decimal, numbers, listedNumbers, ticketLine, ticketLines}
 use Rattle.tape_model.proofs.Unpacking.{unpacked-count, unpacked-at, told}
 use Rattle.listing.specs.Contracts.{Wrote, unpacked, linesOf}
 use Rattle.listing.proofs.Texts.{wrote-as, behind-start, behind-room, behind-wrote, behind-within}
 
 -- ## One line
 
-module _ (position : ℕ) (t : Ticket) (ns out : List ℕ) (ns-are : ns ≡ ticketNumbers t) (room : length (ticketLine position t) ≤ length out) where
+module _ (position : ℕ) (t : Ticket) (ns out : List ℕ) (ns-are : ns ≡ listedNumbers t) (room : length (ticketLine position t) ≤ length out) where
   abbrev rest : List ℕ
   rest = numbers ns ++ lineEnd
 
   parts : decimal position ++ rest ≡ ticketLine position t
   unfolding ticketLine
-  parts = ap (λ (l : List ℕ). decimal position ++ (numbers l ++ lineEnd)) ns-are ∙ sym (append-assoc (decimal position) (numbers (ticketNumbers t)) lineEnd)
+  parts = ap (λ (l : List ℕ). decimal position ++ (numbers l ++ lineEnd)) ns-are ∙ sym (append-assoc (decimal position) (numbers (listedNumbers t)) lineEnd)
 
   parts-room : length (decimal position ++ rest) ≤ length out
   parts-room = omega (arith, ap length parts)
@@ -63,7 +63,7 @@ lines-joined p (t ∷ ts) us =
     ap (λ (l : List ℕ). ticketLine p t ++ l) (lines-joined (p + 1) ts us ∙ ap (λ (q : ℕ). ticketLines (p + 1) ts ++ ticketLines q us) {x = p + 1 + length ts} {y = p + suc (length ts)} (omega arith))
     ∙ sym (append-assoc (ticketLine p t) (ticketLines (p + 1) ts) (ticketLines (p + suc (length ts)) us))
 
-module _ (plain : List ℕ) (sized : ticketsLength (length plain) ≡ true) (good : isRefused (unpacked plain) ≡ false) where
+module _ (plain : List ℕ) (sized : isTicketsLength (length plain) ≡ true) (good : isRefused (unpacked plain) ≡ false) where
   abbrev tickets : List Ticket
   tickets = ticketsIn (unpacked plain)
 
@@ -75,7 +75,7 @@ module _ (plain : List ℕ) (sized : ticketsLength (length plain) ≡ true) (goo
   count = unpacked-count (length plain / 13) plain tickets unpacks
 
   pub few : length plain / 13 ≤ ticketLimit
-  unfolding ticketsLength
+  unfolding isTicketsLength
   few = leb-true _ _ (both (eqb (length plain % 13) 0) _ sized .1)
 
   lines-within : (i : ℕ) → length (ticketLines 1 (take i tickets)) ≤ length (linesOf plain)

@@ -4,12 +4,11 @@ use mathlib.Core.Bool.{true, false}
 use mathlib.Core.List.{List}
 use Prim.Native.Nat.{ℕ, _*_, _/_}
 use lib.ListN.{length}
-use Rattle.acorn_model.specs.declared.Written.{Written}
-use Rattle.acorn_model.specs.Calls.{Reply, writtenReply, writtenOver}
+use Rattle.calls.specs.declared.Written.{Written}
+use Rattle.calls.specs.Calls.{Reply, writtenReply, writtenOver, putInto}
 use Rattle.tape_model.specs.declared.Ticket.{Ticket}
 use Rattle.tape_model.specs.Ticket.{ticketLength}
-use Rattle.tape_model.specs.Tape.{ticketLimit, ticketsLength, unpackTickets, isRefused, ticketsIn, totalNet}
-use Rattle.ticket.specs.Packing.{putInto}
+use Rattle.tape_model.specs.Tape.{ticketLimit, isTicketsLength, unpackTickets, isRefused, ticketsIn, totalNet}
 use Rattle.tape_model.specs.Listing.{ticketLines}
 
 -- the text was written over the start of `before`, its length answered, and `after` is what stands there now
@@ -40,6 +39,6 @@ linesOf plain = ticketLines 1 (ticketsIn (unpacked plain))
 
 -- bytes that unpack to tickets of this total net
 pub record PlainTickets (plain : List ℕ) (total : ℕ) : Type 0 where
-  pub sized : ticketsLength (length plain) ≡ true
+  pub sized : isTicketsLength (length plain) ≡ true
   pub good : isRefused (unpacked plain) ≡ false
   pub net-is : total ≡ totalNet (ticketsIn (unpacked plain))

@@ -4,8 +4,8 @@ use mathlib.Core.Bool.{true}
 use mathlib.Core.List.{List, _++_}
 use Prim.Native.Nat.{ℕ, _+_, _*_, _≤_, _<_}
 use lib.ListN.{length, take}
-use Rattle.acorn_model.specs.declared.Written.{Written}
-use Rattle.acorn_model.specs.Calls.{done, writtenReply, writtenOver}
+use Rattle.calls.specs.declared.Written.{Written}
+use Rattle.calls.specs.Calls.{done, writtenReply, writtenOver}
 use Rattle.acorn_model.specs.Machine.{keyLength}
 use Rattle.tape_model.specs.declared.Ticket.{Ticket}
 use Rattle.tape_model.specs.declared.Head.{Head}

@@ -7,8 +7,8 @@ ghost use mathlib.Core.Path.{_≡_};
 ghost use mathlib.Core.Bool.{true, false};
 ghost use Prim.Native.Nat.{_≤_};
 ghost use lib.ListN.{length};
-ghost use Rattle.acorn_model.specs.Calls.{done};
-ghost use Rattle.tape_model.specs.Tape.{ticketsLength, isRefused, ticketsIn};
+ghost use Rattle.calls.specs.Calls.{done};
+ghost use Rattle.tape_model.specs.Tape.{isTicketsLength, isRefused, ticketsIn};
 ghost use Rattle.tape_model.specs.Listing as model;
 ghost use Rattle.listing.specs.Contracts.{PlainTickets, unpacked, linesOf};
 
@@ -66,7 +66,7 @@ fn ticket_line_length(position: usize, t: Ticket) -> usize
 
 // The length of the lines of the tickets in opened bytes.
 fn ticket_lines_length(plain: &[u8]) -> usize
-    requires { ⌜ (ticketsLength (length (now plain)) ≡ true) × (isRefused (unpacked (now plain)) ≡ false) ⌝ }
+    requires { ⌜ (isTicketsLength (length (now plain)) ≡ true) × (isRefused (unpacked (now plain)) ≡ false) ⌝ }
     ensures { λ r. ⌜ r ≡ length (linesOf (now (plain .entry))) ⌝ }
     ensures { λ r. ⌜ r ≤ 840000 ⌝ }
 {

@@ -3,7 +3,7 @@ mod lengths;
 mod lines;
 mod text;
 
-use acorn_model::Written;
+use calls::Written;
 use lengths::listed_length;
 use lengths::refused_line_length;
 use lines::put_head_line;
@@ -17,7 +17,7 @@ use tape_model::UnpackedHead;
 ghost use mathlib.Core.Path.{_≡_};
 ghost use Prim.Native.Nat.{_≤_};
 ghost use lib.ListN.{length, replicate};
-ghost use Rattle.acorn_model.specs.Calls.{done};
+ghost use Rattle.calls.specs.Calls.{done};
 ghost use Rattle.acorn_model.specs.Machine.{keyLength};
 ghost use Rattle.tape_model.specs.Ticket.{headReply};
 ghost use Rattle.tape_model.specs.Tape.{ticketsIn};

@@ -10,7 +10,7 @@ ghost use mathlib.Core.Path.{_≡_};
 ghost use mathlib.Core.Bool.{true, false};
 ghost use Prim.Native.Nat.{_≤_};
 ghost use lib.ListN.{length};
-ghost use Rattle.tape_model.specs.Tape.{ticketsLength, isRefused};
+ghost use Rattle.tape_model.specs.Tape.{isTicketsLength, isRefused};
 ghost use Rattle.tape_model.specs.Listing as model;
 ghost use Rattle.listing.specs.Contracts.{Wrote, unpacked, linesOf};
 
@@ -39,8 +39,8 @@ pub(crate) fn put_total_line(tickets: usize, net: u64, out: &mut [u8]) -> usize
 }
 
 // The numbers of a ticket's line, but for its position.
-fn ticket_numbers(t: Ticket) -> [u64; 7]
-    ensures { λ r. ⌜ r ≡ model.ticketNumbers t ⌝ }
+fn listed_numbers(t: Ticket) -> [u64; 7]
+    ensures { λ r. ⌜ r ≡ model.listedNumbers t ⌝ }
 {
     [
         t.truck as u64,
@@ -57,7 +57,7 @@ pub(crate) fn put_ticket_line(position: usize, t: Ticket, out: &mut [u8]) -> usi
     requires { ⌜ length (model.ticketLine position t) ≤ length (now out) ⌝ }
     ensures { λ r. ⌜ Wrote (model.ticketLine position t) (now (out .entry)) r (now (out .exit)) ⌝ }
 {
-    let ns = ticket_numbers(t);
+    let ns = listed_numbers(t);
     let n = put_decimal(position as u64, out);
     let k = put_rest(&ns, &mut out[n..]);
     n + k
@@ -65,7 +65,7 @@ pub(crate) fn put_ticket_line(position: usize, t: Ticket, out: &mut [u8]) -> usi
 
 // The lines of the tickets in opened bytes.
 pub(crate) fn put_ticket_lines(plain: &[u8], out: &mut [u8]) -> usize
-    requires { ⌜ (ticketsLength (length (now plain)) ≡ true) × (isRefused (unpacked (now plain)) ≡ false) × (length (linesOf (now plain)) ≤ length (now out)) ⌝ }
+    requires { ⌜ (isTicketsLength (length (now plain)) ≡ true) × (isRefused (unpacked (now plain)) ≡ false) × (length (linesOf (now plain)) ≤ length (now out)) ⌝ }
     ensures { λ r. ⌜ Wrote (linesOf (now (plain .entry))) (now (out .entry)) r (now (out .exit)) ⌝ }
 {
     let tickets = plain.len() / 13;

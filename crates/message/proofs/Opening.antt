@@ -5,14 +5,16 @@ use mathlib.Core.List.{List}
 use Prim.Native.Nat.{ℕ, _-_}
 use native.Mathlib.Omega.{arith}
 use lib.ListN.{length}
-use Rattle.acorn_model.specs.Bits.{Bits, _if_else_}
-use Rattle.acorn_model.specs.Stretches.{tagLength, textOut, tagOf, afterData, beforeFinal}
+use Rattle.acorn_model.specs.Bits.{Bits}
+use Rattle.calls.specs.Calls.{_if_else_, refused, done, unlessRefused, writtenOver, sameBytes, resultOf}
+use Rattle.acorn_model.specs.Stretches.{textOut, tagOf, afterData, beforeFinal}
 use Rattle.acorn_model.specs.Paper.{decrypted}
-use Rattle.acorn_model.specs.Calls.{refused, done, unlessRefused, writtenOver, sameBytes}
-use Rattle.acorn_model.specs.Message.{resultOf, cipherPart, tagPart, tagMatches, opened, tagRefusal, openRefusal, openMessage}
-use Rattle.acorn_model.proofs.Refusals.{refused-if}
+use Rattle.acorn_model.specs.Message.{cipherPart, tagPart, tagMatches, opened, tagRefusal, openRefusal, openMessage}
+use Rattle.acorn_model.specs.Machine.{tagLength}
+use Rattle.calls.proofs.Refusals.{refused-if}
 use Rattle.acorn_model.proofs.Agree.{decrypted-agrees, newTag-agrees}
-use Rattle.acorn_model.proofs.Messages.{Openable, open-told, opened-length, result-written, result-refused}
+use Rattle.acorn_model.proofs.Messages.{Openable, open-told, opened-length}
+use Rattle.calls.proofs.Results.{result-written, result-refused}
 use Rattle.message.specs.Contracts.{restMatches, restOpened}
 
 7-or-none : (matches : Bool) (n : ℕ) → (n ≡ 0 → ⊥) → (n ≡ 7 → ⊥) → (7 if not matches else 0) ≡ n → ⊥

@@ -9,10 +9,11 @@ use lib.ListN.{length, take, drop, length-append, length-drop}
 use lib.Seq.{length-take-le, take-all, take-at, drop-at, take-add, drop-drop, drop-length}
 use borrow.Author.Tests.{le-ltb}
 use borrow.Rule.Slice.PartMut.{putMid, put-same}
-use Rattle.acorn_model.specs.Bits.{Bits, _if_else_}
-use Rattle.acorn_model.specs.Stretches.{tagLength, through, textPiece, textEnd, textOut, tagOf}
-use Rattle.acorn_model.specs.Calls.{writtenOver, sameBytes}
+use Rattle.acorn_model.specs.Bits.{Bits}
+use Rattle.calls.specs.Calls.{_if_else_, writtenOver, sameBytes}
+use Rattle.acorn_model.specs.Stretches.{through, textPiece, textEnd, textOut, tagOf}
 use Rattle.acorn_model.specs.Message.{cipherPart, tagPart}
+use Rattle.acorn_model.specs.Machine.{tagLength}
 use Rattle.acorn_model.proofs.Pieces.{textPiece-none, textPiece-append, textOut-none, textOut-append}
 use Rattle.acorn_model.proofs.Outputs.{textOut-length}
 use Rattle.acorn.specs.Runs.{TextRun}

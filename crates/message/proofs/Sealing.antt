@@ -9,15 +9,17 @@ use lib.ListN.{length, take, drop, length-take, length-drop}
 use borrow.Author.Tests.{eq-eqb, le-ltb}
 use borrow.Rule.Slice.PartMut.{putMid}
 use Rattle.acorn_model.specs.Bits.{Bits}
-use Rattle.acorn_model.specs.Stretches.{tagLength, through, start, zeros, textPiece, textEnd, textOut, tagOf, afterData}
-use Rattle.acorn_model.specs.Calls.{refused, done, writtenOver}
+use Rattle.acorn_model.specs.Stretches.{through, start, zeros, textPiece, textEnd, textOut, tagOf, afterData}
+use Rattle.calls.specs.Calls.{refused, done, writtenOver}
 use Rattle.acorn_model.specs.Paper.{ciphertext, tag}
 use Rattle.acorn_model.specs.Message.{sealed, sealRefusal, sealMessage}
 use Rattle.acorn_model.specs.Laws.{WithinLimits}
+use Rattle.acorn_model.specs.Machine.{tagLength}
 use Rattle.acorn_model.proofs.Agree.{ciphertext-agrees, tag-agrees}
 use Rattle.acorn_model.proofs.Outputs.{ciphertext-length, tag-length, sealed-length}
-use Rattle.acorn_model.proofs.Writing.{written-length, written-behind}
-use Rattle.acorn_model.proofs.Messages.{seal-told, result-written, result-refused}
+use Rattle.calls.proofs.Writing.{written-length, written-behind}
+use Rattle.acorn_model.proofs.Messages.{seal-told}
+use Rattle.calls.proofs.Results.{result-written, result-refused}
 use Rattle.acorn.specs.Runs.{TextRun, startState, tagOutput}
 
 pub start-right : (key nonce : List ℕ) → length key ≡ 16 → length nonce ≡ 16 → startState key nonce ≡ through (start key nonce) zeros

@@ -2,9 +2,9 @@
 use mathlib.Core.Bool.{Bool, true}
 use mathlib.Core.List.{List}
 use Prim.Native.Nat.{ℕ}
-use Rattle.acorn_model.specs.Bits.{Bits, _if_else_}
+use Rattle.acorn_model.specs.Bits.{Bits}
+use Rattle.calls.specs.Calls.{_if_else_, writtenOver, sameBytes}
 use Rattle.acorn_model.specs.Stretches.{textOut, tagOf, beforeFinal}
-use Rattle.acorn_model.specs.Calls.{writtenOver, sameBytes}
 use Rattle.acorn_model.specs.Message.{cipherPart, tagPart}
 
 module _ (S : Bits) (sealedBytes : List ℕ) where

@@ -2,7 +2,7 @@
 // Prints a line a case.
 mod strings;
 
-use acorn_model::Written;
+use calls::Written;
 use strings::fill;
 use strings::first;
 use strings::holds;

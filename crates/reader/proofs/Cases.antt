@@ -7,16 +7,16 @@ use native.Mathlib.Omega.{arith}
 use lib.ListN.{length, take, drop, length-drop}
 use lib.Seq.{length-take-le}
 use borrow.Author.Tests.{le-leb, lt-leb}
-use Rattle.acorn_model.specs.Calls.{Reply, refused, done}
+use Rattle.calls.specs.Calls.{Reply, refused, done}
 use Rattle.tape_model.specs.declared.Ticket.{Ticket}
 use Rattle.tape_model.specs.Ticket.{unpackTicket}
-use Rattle.tape_model.specs.Tape.{ticketsLength}
+use Rattle.tape_model.specs.Tape.{isTicketsLength}
 use Rattle.tape_model.specs.Reader.{atEnd, stays, handedOut, readNext}
 use Rattle.ticket.proofs.Summing.{refused-by-8}
 use Rattle.reader.specs.Contracts.{readerAt}
 
 -- r: whether the bytes are of a right size
-module _ (s : List ℕ) (p : ℕ) (r : Bool) (sized : r ≡ ticketsLength (length s)) where
+module _ (s : List ℕ) (p : ℕ) (r : Bool) (sized : r ≡ isTicketsLength (length s)) where
   pub wrong-size : not r ≡ true → stays (readerAt s p) (refused 2) ≡ readNext (readerAt s p)
   unfolding readNext
   wrong-size wrong = rw (sym sized, wrong)

@@ -8,15 +8,14 @@ use lib.Dec.{leb}
 use lib.ListN.{length, take, drop}
 use lib.Seq.{take-nil, take-at, drop-drop}
 use denote.Ref.{RefT, now}
-use Rattle.acorn_model.specs.Bits.{_if_else_}
-use Rattle.acorn_model.specs.Calls.{Reply, refused, done, writtenOver}
+use Rattle.calls.specs.Calls.{_if_else_, Reply, refused, done, writtenOver}
 use Rattle.acorn_model.specs.RefusalCases.{string}
 use Rattle.tape_model.specs.declared.Ticket.{Ticket}
 use Rattle.tape_model.specs.declared.NextTicket.{NextTicket}
 use Rattle.tape_model.specs.declared.NextTicket.the-variants.{Refused, Done, End}
 use Rattle.tape_model.specs.declared.OpenedTape.the-variants.{Done as TapeDone}
 use Rattle.tape_model.specs.Ticket.{ordered, valuesRule, packTicket, unpackTicket}
-use Rattle.tape_model.specs.Tape.{packTickets, ticketsLength, ticketThen, isRefused, unpackTickets, ticketsIn, totalNet, Totals, ticketCount, plainBytes, openTape, openedReply}
+use Rattle.tape_model.specs.Tape.{packTickets, isTicketsLength, ticketThen, isRefused, unpackTickets, ticketsIn, totalNet, Totals, ticketCount, plainBytes, openTape, openedReply}
 use Rattle.tape_model.specs.Reader as model
 use Rattle.tape_model.specs.Reader.{Reading, ticket, atEnd, ReadOutcome, stays, handedOut, readerOver, readNext, nextReply}
 use Rattle.tape_model.specs.RefusalCases.{goodTicket, lastByteC1}
@@ -26,7 +25,7 @@ use Rattle.tape_model.proofs.Unpacking.{unpacked-count, told}
 use Rattle.tape_model.proofs.Opening.{tickets-good, plain-length, was-accepted, count-is, net-is, few-tickets, front}
 use Rattle.reader.specs.declared.Reader.{Reader}
 use Rattle.reader.specs.declared.ReaderReply.{ReaderReply}
-use Rattle.reader.specs.Contracts.{readerAt, readerOf, outcomeOf, NextCalled}
+use Rattle.reader.specs.Contracts.{readerAt, readerOf, readerOutcome, NextCalled}
 use Rattle.reader.specs.Reading.{NextCalls, none, call, ReaderList, inTurn, HandsOut, ReadingLaws}
 use Rattle.reader.proofs.Cases.{wrong-size, no-more, unpacked, not-unpacked}
 
@@ -34,10 +33,10 @@ use Rattle.reader.proofs.Cases.{wrong-size, no-more, unpacked, not-unpa
 
 as-defined-from : (r e : Reader) (answers : List (Reply Reading)) → NextCalls r answers e
     → (answers ≡ readings (length answers) (readerOf r)) × (readerOf e ≡ readerAfter (length answers) (readerOf r))
-unfolding outcomeOf
+unfolding readerOutcome
 as-defined-from r e _ none = (refl, refl)
 as-defined-from r e _ (call {answers = answers} h called calls) =
-    let o : outcomeOf h ≡ readNext (readerOf r) = called .outcome in
+    let o : readerOutcome h ≡ readNext (readerOf r) = called .outcome in
     let rest = as-defined-from (h .reader) e answers calls in
     (λ i. o i .answer ∷ (rest .0 ∙ (λ j. readings (length answers) (o j .next))) i, rest .1 ∙ (λ j. readerAfter (length answers) (o j .next)))
 
@@ -70,7 +69,7 @@ answers-so (done atEnd) = refl
 same-string : (r : model.Reader) → readNext r .next .string ≡ r .string
 unfolding readNext handedOut
 same-string r =
-    by (not (ticketsLength (length (r .string)))) (leb (length (r .string) / 13) (r .position)) (unpackTicket (take 13 (drop (13 * r .position) (r .string))))
+    by (not (isTicketsLength (length (r .string)))) (leb (length (r .string) / 13) (r .position)) (unpackTicket (take 13 (drop (13 * r .position) (r .string))))
   where
     by : (a b : Bool) (t : Reply Ticket) → (stays r (refused 2) if a else stays r (done atEnd) if b else handedOut t r) .next .string ≡ r .string
     by true b t = refl
@@ -79,7 +78,7 @@ same-string r =
     by false false (done t) = refl
 
 reply : (r : Reader) → (h : ReaderReply) × NextCalled r h
-unfolding readerOf outcomeOf
+unfolding readerOf readerOutcome
 reply r =
     let o : ReadOutcome = readNext (readerOf r) in (
       record { reader = record { bytes = r .bytes; position = o .next .position }; answer = answerOf (o .answer) },
@@ -131,7 +130,7 @@ both (refused n) b t ts e = let z : _≡_ {A = ℕ} 0 1 = cc in absurd (omega ar
 both (done u) (refused n) t ts e = let z : _≡_ {A = ℕ} 0 1 = cc in absurd (omega arith)
 both (done u) (done us) t ts e = (cc, cc)
 
-module _ (s : List ℕ) (last : Reply Reading) (sized : ticketsLength (length s) ≡ true) where
+module _ (s : List ℕ) (last : Reply Reading) (sized : isTicketsLength (length s) ≡ true) where
   ahead : (p : ℕ) (ts : List Ticket) → p + length ts ≤ length s / 13 → unpackTickets (length ts) (drop (13 * p) s) ≡ done ts
       → Ahead s last (p + length ts) [] → Ahead s last p ts
   unfolding unpackTickets handedOut
@@ -160,14 +159,14 @@ module _ (bytes : RefT (List ℕ)) where
       (d .0 ∙ h .0, d .1 ∙ h .1 ∙ ap (readerAt s) {x = 0 + length (take (length answers) ts)} {y = length (take (length answers) ts)} (omega arith))
 
   -- bytes of a right size that begin with these tickets
-  begins : (ts : List Ticket) (last : Reply Reading) → ticketsLength (length s) ≡ true → length ts ≤ length s / 13 → unpackTickets (length ts) s ≡ done ts
+  begins : (ts : List Ticket) (last : Reply Reading) → isTicketsLength (length s) ≡ true → length ts ≤ length s / 13 → unpackTickets (length ts) s ≡ done ts
       → readNext (readerAt s (length ts)) ≡ stays (readerAt s (length ts)) last → HandsOut bytes ts last
   begins ts last sized room u a =
       hands-out ts last (ahead s last sized 0 ts (omega arith) u (subst (λ (k : ℕ). Ahead s last k []) {x = length ts} {y = 0 + length ts} (omega arith) a))
 
   whole : (ts : List Ticket) → length s ≡ 13 * length ts → length ts ≤ 5000 → unpackTickets (length ts) s ≡ done ts → HandsOut bytes ts (done atEnd)
   whole ts size few u =
-      let sized : ticketsLength (length s) ≡ true = ap ticketsLength size ∙ length-allowed (length ts) few in
+      let sized : isTicketsLength (length s) ≡ true = ap isTicketsLength size ∙ length-allowed (length ts) few in
       begins ts (done atEnd) sized (omega arith) u (sym (no-more s (length ts) true (sym sized) refl (omega arith)))
 
   opened : (key tape out after : List ℕ) (n net : ℕ) → openTape key tape out ≡ record { answer = openedReply (TapeDone n net); out = after } → s ≡ take (13 * n) after
@@ -188,22 +187,22 @@ module _ (bytes : RefT (List ℕ)) where
             (ap₂ unpackTickets c plain ∙ u),
       )
 
-  bad-ticket : (ts : List Ticket) → ticketsLength (length s) ≡ true → length ts < length s / 13 → unpackTickets (length ts) s ≡ done ts
+  bad-ticket : (ts : List Ticket) → isTicketsLength (length s) ≡ true → length ts < length s / 13 → unpackTickets (length ts) s ≡ done ts
       → isRefused (unpackTicket (take 13 (drop (13 * length ts) s))) ≡ true → HandsOut bytes ts (refused 8)
   bad-ticket ts sized here u bad =
       let x = number (unpackTicket (take 13 (drop (13 * length ts) s))) bad in
       begins ts (refused 8) sized (omega arith) u (sym (not-unpacked s (length ts) true (sym sized) refl 13 here refl (x .0) (x .1)))
 
   last-byte-C1 : s ≡ packTicket goodTicket ++ lastByteC1 → HandsOut bytes (goodTicket ∷ []) (refused 8)
-  unfolding ticketsLength unpackTickets unpackTicket packTicket valuesRule ordered
+  unfolding isTicketsLength unpackTickets unpackTicket packTicket valuesRule ordered
   last-byte-C1 e =
       let n : length s ≡ 26 = ap length e in
-      bad-ticket (goodTicket ∷ []) (ap (λ (l : List ℕ). ticketsLength (length l)) e) (omega arith) (ap (unpackTickets 1) e)
+      bad-ticket (goodTicket ∷ []) (ap (λ (l : List ℕ). isTicketsLength (length l)) e) (omega arith) (ap (unpackTickets 1) e)
       (ap (λ (l : List ℕ). isRefused (unpackTicket (take 13 (drop 13 l)))) e)
 
   too-short : s ≡ string 12 → HandsOut bytes [] (refused 2)
-  unfolding ticketsLength
-  too-short e = hands-out [] (refused 2) (sym (wrong-size s 0 false (sym (ap (λ (l : List ℕ). ticketsLength (length l)) e)) refl))
+  unfolding isTicketsLength
+  too-short e = hands-out [] (refused 2) (sym (wrong-size s 0 false (sym (ap (λ (l : List ℕ). isTicketsLength (length l)) e)) refl))
 
   laws : ReadingLaws bytes
   unfolding writtenOver

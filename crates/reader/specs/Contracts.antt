@@ -22,8 +22,8 @@ unfoldable pub readerOf : Reader → model.Reader
 readerOf r = readerAt (now (r .bytes)) (r .position)
 
 -- what a call's reply comes to
-unfoldable pub outcomeOf : ReaderReply → ReadOutcome
-outcomeOf h = record { next = readerOf (h .reader); answer = nextReply (h .answer) }
+unfoldable pub readerOutcome : ReaderReply → ReadOutcome
+readerOutcome h = record { next = readerOf (h .reader); answer = nextReply (h .answer) }
 
 -- the reader r was made over lent bytes: it holds them, and is fresh
 pub record Made (bytes : RefT (List ℕ)) (r : Reader) : Type 0 where
@@ -33,4 +33,4 @@ pub record Made (bytes : RefT (List ℕ)) (r : Reader) : Type 0 where
 -- a call of the reader r gave h: the reader handed on holds the same bytes, and what comes of the call is document 01's
 pub record NextCalled (r : Reader) (h : ReaderReply) : Type 0 where
   pub same : h .reader .bytes ≡ r .bytes
-  pub outcome : outcomeOf h ≡ readNext (readerOf r)
+  pub outcome : readerOutcome h ≡ readNext (readerOf r)

@@ -6,7 +6,7 @@ use mathlib.Core.List.{List, [], _∷_, _++_}
 use Prim.Native.Nat.{ℕ, zero, suc, _*_, _/_, _≤_, _<_}
 use lib.ListN.{length, take, drop}
 use denote.Ref.{RefT, now}
-use Rattle.acorn_model.specs.Calls.{Reply, refused, done}
+use Rattle.calls.specs.Calls.{Reply, refused, done}
 use Rattle.acorn_model.specs.Machine.{keyLength}
 use Rattle.acorn_model.specs.RefusalCases.{string}
 use Rattle.tape_model.specs.declared.Ticket.{Ticket}
@@ -14,7 +14,7 @@ use Rattle.tape_model.specs.declared.Head.{Head}
 use Rattle.tape_model.specs.declared.OpenedTape.{OpenedTape}
 use Rattle.tape_model.specs.declared.OpenedTape.the-variants.{Done}
 use Rattle.tape_model.specs.Ticket.{ticketLength, packTicket, unpackTicket, headRule}
-use Rattle.tape_model.specs.Tape.{ticketLimit, tapeOf, ticketsLength, isRefused, unpackTickets, totalNet, openTape, openedReply}
+use Rattle.tape_model.specs.Tape.{ticketLimit, tapeOf, isTicketsLength, isRefused, unpackTickets, totalNet, openTape, openedReply}
 use Rattle.tape_model.specs.Reader.{Reading, ticket, atEnd, readerOver, nextReply}
 use Rattle.tape_model.specs.RefusalCases.{goodTicket, lastByteC1}
 use Rattle.tape_model.specs.Laws.{Valid, readings, readerAfter}
@@ -71,9 +71,9 @@ pub record ReadingLaws (bytes : RefT (List ℕ)) : Type 0 where
       → now bytes ≡ take (ticketLength * n) after
       → (tickets : List Ticket) × (length tickets ≡ n) × (totalNet tickets ≡ net) × HandsOut bytes tickets (done atEnd)
   -- over bytes of a wrong size: 2
-  pub wrong-size : ticketsLength (length (now bytes)) ≡ false → HandsOut bytes [] (refused 2)
+  pub wrong-size : isTicketsLength (length (now bytes)) ≡ false → HandsOut bytes [] (refused 2)
   -- over bytes in which a ticket behind others does not unpack: these, and then 8
-  pub bad-ticket : (before : List Ticket) → ticketsLength (length (now bytes)) ≡ true → length before < length (now bytes) / ticketLength
+  pub bad-ticket : (before : List Ticket) → isTicketsLength (length (now bytes)) ≡ true → length before < length (now bytes) / ticketLength
       → unpackTickets (length before) (now bytes) ≡ done before
       → isRefused (unpackTicket (take ticketLength (drop (ticketLength * length before) (now bytes)))) ≡ true
       → HandsOut bytes before (refused 8)

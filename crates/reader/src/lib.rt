@@ -5,7 +5,7 @@ ghost use Rattle.tape_model.specs.Reader.{readNext};
 ghost use Rattle.reader.specs.Contracts.{readerAt, readOutcome, Made, NextCalled};
 use tape_model::NextTicket;
 use tape_model::UnpackedTicket;
-use ticket::tickets_length;
+use ticket::is_tickets_length;
 
 // What stands at a position, and the position after it. A position is the number of tickets before it: 0 before the first.
 pub struct ReadAt {
@@ -18,7 +18,7 @@ pub fn read_at(bytes: &[u8], position: usize) -> ReadAt
     ensures { λ r. ⌜ readOutcome (now (bytes .entry)) r ≡ readNext (readerAt (now (bytes .entry)) position) ⌝ }
 {
     let size = bytes.len();
-    if !tickets_length(size) {
+    if !is_tickets_length(size) {
         return ReadAt {
             position,
             answer: NextTicket::Refused(2),

@@ -10,9 +10,9 @@ use Rattle.acorn_model.specs.declared.Kind.{Kind}
 use Rattle.acorn_model.specs.declared.Kind.the-variants.{Sealing, Checking}
 use Rattle.acorn_model.specs.declared.Phase.{Phase}
 use Rattle.acorn_model.specs.declared.Phase.the-variants.{Text, Closed}
-use Rattle.acorn_model.specs.Bits.{Bits, _if_else_}
+use Rattle.acorn_model.specs.Bits.{Bits}
+use Rattle.calls.specs.Calls.{_if_else_, writtenOver}
 use Rattle.acorn_model.specs.Stretches.{through, zeros, dataEnd, textPiece, textEnd, final, textOut}
-use Rattle.acorn_model.specs.Calls.{writtenOver}
 use Rattle.acorn_model.specs.Machine.{Machine, isSealing, isChecking, isData, runThrough, enter, cleared, countText, dataEnded, textTaken, textEnded, closed}
 use Rattle.acorn_kernel.specs.declared.State.{State}
 use Rattle.acorn_kernel.specs.Together.{stateOf}

@@ -16,11 +16,11 @@ use Rattle.acorn_kernel.specs.Together.{stateOf}
 use Rattle.acorn_kernel.proofs.StateWords.{at0, at1, at2, at3, at4, at5, at-above, state-is}
 use Rattle.session.specs.declared.Session.{Session}
 use Rattle.session.specs.Contracts.{machineOf}
-use Rattle.session.specs.Words.{numberOf, kindIn, phaseIn, wordsOf, sessionIn, machineIn, stateFor, sessionFor, wordsFor}
+use Rattle.session.specs.Words.{kindPhaseNumber, kindIn, phaseIn, wordsOf, sessionIn, machineIn, stateFor, sessionFor, wordsFor}
 
 -- ## The words that a session holds
 
-kind-back : (k : Kind) (p : Phase) → kindIn (numberOf k p) ≡ k
+kind-back : (k : Kind) (p : Phase) → kindIn (kindPhaseNumber k p) ≡ k
 kind-back Sealing Fresh = refl
 kind-back Sealing Data = refl
 kind-back Sealing Text = refl
@@ -30,7 +30,7 @@ kind-back Checking Data = refl
 kind-back Checking Text = refl
 kind-back Checking Closed = refl
 
-phase-back : (k : Kind) (p : Phase) → phaseIn (numberOf k p) ≡ p
+phase-back : (k : Kind) (p : Phase) → phaseIn (kindPhaseNumber k p) ≡ p
 phase-back Sealing Fresh = refl
 phase-back Sealing Data = refl
 phase-back Sealing Text = refl
@@ -89,7 +89,7 @@ own-bits m n w b small held =
     let parts : number n b * 2 ^ m + w % 2 ^ m ≡ w = ap (λ (x : ℕ). x * 2 ^ m + w % 2 ^ m) (number-same n b (bit (w / 2 ^ m)) held ∙ number-of n (w / 2 ^ m)) ∙ recompose n m small in
     omega (arith, parts)
 
-pub words-are : (s : Session) (n : ℕ) → n ≡ numberOf (s .kind) (s .phase) → s .state .w0 < 2 ^ 64 → s .state .w1 < 2 ^ 64 → s .state .w2 < 2 ^ 64 → s .state .w3 < 2 ^ 64
+pub words-are : (s : Session) (n : ℕ) → n ≡ kindPhaseNumber (s .kind) (s .phase) → s .state .w0 < 2 ^ 64 → s .state .w1 < 2 ^ 64 → s .state .w2 < 2 ^ 64 → s .state .w3 < 2 ^ 64
     → s .state .w4 < 2 ^ 64 → s .state .w5 < 2 ^ 64
     → (s .state .w0 - s .state .w0 % 2 ^ 3)
     ∷ (s .state .w1 - s .state .w1 % 2 ^ 18)

@@ -9,13 +9,12 @@ use native.Mathlib.Nat.{mod-eq-of-lt}
 use native.Mathlib.Omega.{arith}
 use lib.ListN.{length}
 use Rattle.acorn_model.specs.declared.Phase.the-variants.{Data, Text, Closed}
-use Rattle.acorn_model.specs.Bits.{_if_else_}
+use Rattle.calls.specs.Calls.{_if_else_, Work, unlessRefused, sameBytes, Outcome, refusedWith}
 use Rattle.acorn_model.specs.Stretches.{Stretch, through, start, dataPiece, dataEnd, textPiece, textEnd, final, textOut, tagOf}
-use Rattle.acorn_model.specs.Calls.{Work, unlessRefused, sameBytes, Outcome, refusedWith}
 use Rattle.acorn_model.specs.Machine.{Machine, Call, begin, dataCall, sealText, checkText, sealClose, checkClose, outputOf, isChecking, isData, phaseAllows, overLimit, refusal, runThrough, enter, cleared, countData, countText, begun, dataTaken, dataEnded, textTaken, textEnded, closed, answered, wrote, verdict, work, call}
 use Rattle.session.specs.declared.Session.{Session}
 use Rattle.session.specs.declared.Reply.{Reply as SessionReply}
-use Rattle.session.specs.Contracts.{machineOf, outcomeOf, wrapped, wrappedMachine, wrappedReply, wrappedOutcome, Called}
+use Rattle.session.specs.Contracts.{machineOf, sessionOutcome, wrapped, wrappedMachine, wrappedReply, wrappedOutcome, Called}
 
 -- ## Outcomes wrap around with their machine
 
@@ -168,10 +167,10 @@ call-within m c h = unlessRefused-within (refusal m c) m c h
 
 -- on a session that stands for a machine whose count wrapped around
 pub called-wrapped : (s : Session) (c : Call) (r : SessionReply) (out : List ℕ) (m : Machine) → machineOf s ≡ wrappedMachine m → Called s c r out
-    → outcomeOf r out ≡ wrappedOutcome (call m c)
+    → sessionOutcome r out ≡ wrappedOutcome (call m c)
 called-wrapped s c r out m e h = h ∙ ap (λ (x : Machine). wrappedOutcome (call x c)) e ∙ wrapped-call m c
 
 -- on a session that stands for a machine, where the count stays below 2 ^ 64
 pub called-within : (s : Session) (c : Call) (r : SessionReply) (out : List ℕ) (m : Machine) → machineOf s ≡ m → call m c .next .counts .steps < 2 ^ 64 → Called s c r out
-    → outcomeOf r out ≡ call m c
+    → sessionOutcome r out ≡ call m c
 called-within s c r out m e l h = h ∙ ap (λ (x : Machine). wrappedOutcome (call x c)) e ∙ call-within m c l

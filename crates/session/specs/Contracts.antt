@@ -4,10 +4,10 @@ use mathlib.Core.Bool.{Bool, not}
 use mathlib.Core.List.{List}
 use Prim.Native.Nat.{ℕ, _%_, _^_}
 use Rattle.acorn_model.specs.declared.Phase.{Phase}
-use Rattle.acorn_model.specs.declared.Answer.the-variants.{Refused, Done}
-use Rattle.acorn_model.specs.Bits.{Bits, _if_else_}
+use Rattle.calls.specs.declared.Answer.the-variants.{Refused, Done}
+use Rattle.acorn_model.specs.Bits.{Bits}
+use Rattle.calls.specs.Calls.{_if_else_, Reply, refused, done, Work, accepted, Outcome, answerReply}
 use Rattle.acorn_model.specs.Stretches.{through, dataEnd}
-use Rattle.acorn_model.specs.Calls.{Reply, refused, done, Work, accepted, Outcome, answerReply}
 use Rattle.acorn_model.specs.Machine.{Machine, Call, isData, textTaken, call}
 use Rattle.acorn_kernel.specs.declared.State.{State}
 use Rattle.acorn_kernel.specs.Together.{stateOf}
@@ -25,8 +25,8 @@ machineOf s =
     }
 
 -- what a call's reply, and its output after it, come to
-unfoldable pub outcomeOf : SessionReply → List ℕ → Outcome Machine Work
-outcomeOf r out = record { next = machineOf (r .session); answer = answerReply (r .answer); out = out }
+unfoldable pub sessionOutcome : SessionReply → List ℕ → Outcome Machine Work
+sessionOutcome r out = record { next = machineOf (r .session); answer = answerReply (r .answer); out = out }
 
 -- ## Counting in 64 bits
 
@@ -54,7 +54,7 @@ wrappedOutcome o = record { next = wrappedMachine (o .next); answer = wrappedRep
 
 -- the call c of the session s gave the reply r and left `out` in its output ([] where it is lent none)
 abbrev pub Called : Session → Call → SessionReply → List ℕ → Type 0
-Called s c r out = outcomeOf r out ≡ wrappedOutcome (call (machineOf s) c)
+Called s c r out = sessionOutcome r out ≡ wrappedOutcome (call (machineOf s) c)
 
 -- ## What the private functions cite
 

@@ -8,7 +8,8 @@ use Rattle.acorn_model.specs.declared.Kind.{Kind}
 use Rattle.acorn_model.specs.declared.Kind.the-variants.{Sealing, Checking}
 use Rattle.acorn_model.specs.declared.Phase.{Phase}
 use Rattle.acorn_model.specs.declared.Phase.the-variants.{Fresh, Data, Text, Closed}
-use Rattle.acorn_model.specs.Bits.{Bits, _if_else_, number}
+use Rattle.acorn_model.specs.Bits.{Bits, number}
+use Rattle.calls.specs.Calls.{_if_else_}
 use Rattle.acorn_model.specs.Machine.{Machine}
 use Rattle.acorn_kernel.specs.declared.State.{State}
 use Rattle.session.specs.declared.Session.{Session}
@@ -16,15 +17,15 @@ use Rattle.session.specs.Contracts.{machineOf}
 
 -- ## Kind and phase in one number: any but those listed is a closed checking session
 
-abbrev pub numberOf : Kind → Phase → ℕ
-numberOf Sealing Fresh = 0
-numberOf Sealing Data = 1
-numberOf Sealing Text = 2
-numberOf Sealing Closed = 3
-numberOf Checking Fresh = 4
-numberOf Checking Data = 5
-numberOf Checking Text = 6
-numberOf Checking Closed = 7
+abbrev pub kindPhaseNumber : Kind → Phase → ℕ
+kindPhaseNumber Sealing Fresh = 0
+kindPhaseNumber Sealing Data = 1
+kindPhaseNumber Sealing Text = 2
+kindPhaseNumber Sealing Closed = 3
+kindPhaseNumber Checking Fresh = 4
+kindPhaseNumber Checking Data = 5
+kindPhaseNumber Checking Text = 6
+kindPhaseNumber Checking Closed = 7
 
 abbrev pub kindIn : ℕ → Kind
 kindIn n = Sealing if ltb n 4 else Checking
@@ -50,7 +51,7 @@ wordsOf s =
     ∷ s .«data_bytes»
     ∷ s .«text_bytes»
     ∷ s .steps
-    ∷ numberOf (s .kind) (s .phase)
+    ∷ kindPhaseNumber (s .kind) (s .phase)
     ∷ []
 
 unfoldable pub sessionIn : List ℕ → Session

@@ -5,11 +5,11 @@ use acorn_model::Kind;
 use acorn_model::Phase;
 ghost use mathlib.Core.Path.{_≡_};
 ghost use Rattle.session.specs.Contracts.{machineOf};
-ghost use Rattle.session.specs.Words.{numberOf, kindIn, phaseIn, sessionIn, wordsFor};
+ghost use Rattle.session.specs.Words.{kindPhaseNumber, kindIn, phaseIn, sessionIn, wordsFor};
 
 // Kind and phase in one number.
 fn number(kind: Kind, phase: Phase) -> u64
-    ensures { λ r. ⌜ r ≡ numberOf kind phase ⌝ }
+    ensures { λ r. ⌜ r ≡ kindPhaseNumber kind phase ⌝ }
 {
     match kind {
         Kind::Sealing => match phase {

@@ -6,10 +6,9 @@ use native.Mathlib.Omega.{arith}
 use lib.ListN.{length, take, drop}
 use lib.Seq.{take-at}
 use borrow.Author.Tests.{le-ltb}
-use Rattle.acorn_model.specs.Calls.{Reply, refused, done, unlessRefused, writtenOver}
-use Rattle.acorn_model.specs.Message.{Result, resultOf}
+use Rattle.calls.specs.Calls.{Reply, refused, done, unlessRefused, writtenOver, Result, resultOf}
 use Rattle.tape_model.specs.Ticket.{ticketLength}
-use Rattle.tape_model.specs.Tape.{unpackTickets, ticketsIn, totalNet, Totals, emptyTapeLength, ticketCount, plainBytes, openRefusal, openTape}
+use Rattle.tape_model.specs.Tape.{unpackTickets, ticketsIn, totalNet, Totals, emptyTapeLength, ticketCount, plainBytes, openTapeRefusal, openTape}
 use Rattle.tape_model.proofs.Opening.{text-length, plain-length}
 use Rattle.tape.specs.Contracts.{textRefusal, scratchAfter, openScratch}
 use Rattle.tape.proofs.Packed.{copied}
@@ -19,7 +18,7 @@ use Rattle.tape.proofs.Sizes.{Openable, openable}
 abbrev totals : List ℕ → List ℕ → Totals
 totals key tape = record { tickets = ticketCount tape; net = totalNet (ticketsIn (unpackTickets (ticketCount tape) (plainBytes key tape))) }
 
-module _ (key tape scratch out : List ℕ) (room : length tape ≤ length scratch + emptyTapeLength) (only-text : openRefusal key tape out ≡ textRefusal key tape) where
+module _ (key tape scratch out : List ℕ) (room : length tape ≤ length scratch + emptyTapeLength) (only-text : openTapeRefusal key tape out ≡ textRefusal key tape) where
   abbrev o : Openable key tape out
   o = openable key tape out only-text
 
@@ -27,22 +26,22 @@ module _ (key tape scratch out : List ℕ) (room : length tape ≤ length scratc
   text-is = text-length (length tape) (o .tape-size)
 
   -- the same numbers apply, since there is room in both
-  same-number : openRefusal key tape scratch ≡ openRefusal key tape out
-  unfolding openRefusal
+  same-number : openTapeRefusal key tape scratch ≡ openTapeRefusal key tape out
+  unfolding openTapeRefusal
   same-number =
       rw (le-ltb (length scratch) (ticketLength * ticketCount tape) (omega (arith, text-is)), le-ltb (length out) (ticketLength * ticketCount tape) (omega (arith, text-is, o .room)))
 
-  pub into-scratch : openRefusal key tape scratch ≡ textRefusal key tape
+  pub into-scratch : openTapeRefusal key tape scratch ≡ textRefusal key tape
   into-scratch = same-number ∙ only-text
 
   module _ (a : Reply Totals) (filled : List ℕ) (e : openScratch key tape scratch ≡ record { answer = a; out = filled }) where
-    told : (openTape key tape scratch .answer ≡ a) × (scratchAfter (openRefusal key tape scratch) (plainBytes key tape) scratch ≡ filled)
+    told : (openTape key tape scratch .answer ≡ a) × (scratchAfter (openTapeRefusal key tape scratch) (plainBytes key tape) scratch ≡ filled)
     unfolding openScratch
     told = (ap (λ (r : Result Totals). r .answer) e, ap (λ (r : Result Totals). r .out) e)
 
     pub not-copied : (n : ℕ) → a ≡ refused n → openTape key tape out ≡ record { answer = a; out = out }
     unfolding openTape resultOf unlessRefused
-    not-copied n f = by (openRefusal key tape out) (rw same-number at (told .0))
+    not-copied n f = by (openTapeRefusal key tape out) (rw same-number at (told .0))
       where
         by : (m : ℕ) → resultOf m (totals key tape) (plainBytes key tape) scratch .answer ≡ a → resultOf m (totals key tape) (plainBytes key tape) out ≡ record { answer = a; out = out }
         by zero g = absurd (let z : _≡_ {A = ℕ} 0 1 = cc in omega arith)
@@ -51,9 +50,9 @@ module _ (key tape scratch out : List ℕ) (room : length tape ≤ length scratc
     pub copied-out : (k : Totals) → a ≡ done k → (piece after : List ℕ) → piece ≡ take (length tape - emptyTapeLength) filled
         → after ≡ take (length piece) piece ++ drop (length piece) out → openTape key tape out ≡ record { answer = a; out = after }
     unfolding openTape resultOf unlessRefused scratchAfter writtenOver
-    copied-out k f piece after piece-is written = by (openRefusal key tape out) refl (rw same-number at (told .0)) (rw same-number at (told .1))
+    copied-out k f piece after piece-is written = by (openTapeRefusal key tape out) refl (rw same-number at (told .0)) (rw same-number at (told .1))
       where
-        by : (m : ℕ) → openRefusal key tape out ≡ m → resultOf m (totals key tape) (plainBytes key tape) scratch .answer ≡ a → scratchAfter m (plainBytes key tape) scratch ≡ filled
+        by : (m : ℕ) → openTapeRefusal key tape out ≡ m → resultOf m (totals key tape) (plainBytes key tape) scratch .answer ≡ a → scratchAfter m (plainBytes key tape) scratch ≡ filled
             → resultOf m (totals key tape) (plainBytes key tape) out ≡ record { answer = a; out = after }
         by zero n g h =
             let long : length (plainBytes key tape) ≡ length tape - emptyTapeLength = plain-length key tape out n ∙ text-is in

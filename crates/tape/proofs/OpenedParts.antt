@@ -7,13 +7,12 @@ use native.Mathlib.Omega.{arith}
 use lib.ListN.{length, take, drop, replicate, length-drop}
 use lib.Seq.{take-all, take-at}
 use borrow.Author.Tests.{eq-eqb, le-leb}
-use Rattle.acorn_model.specs.Bits.{_if_else_}
-use Rattle.acorn_model.specs.Calls.{Reply, refused, done, unlessRefused, writtenOver}
-use Rattle.acorn_model.specs.Message.{resultOf, tagMatches, opened}
+use Rattle.calls.specs.Calls.{_if_else_, Reply, refused, done, unlessRefused, writtenOver, resultOf}
+use Rattle.acorn_model.specs.Message.{tagMatches, opened}
 use Rattle.acorn_model.proofs.Messages.{opened-length}
 use Rattle.tape_model.specs.declared.Ticket.{Ticket}
 use Rattle.tape_model.specs.Ticket.{headLength}
-use Rattle.tape_model.specs.Tape.{nonceOf, ticketsLength, unpackTickets, isRefused, Totals, totalsOf, plainTotals, emptyTapeLength, headBytes, sealedBytes, ticketCount, plainBytes, openRefusal, openTape}
+use Rattle.tape_model.specs.Tape.{nonceOf, isTicketsLength, unpackTickets, isRefused, Totals, totalsOf, plainTotals, emptyTapeLength, headBytes, sealedBytes, ticketCount, plainBytes, openTapeRefusal, openTape}
 use Rattle.tape.specs.Contracts.{textRefusal, scratchAfter, openScratch}
 use Rattle.tape.proofs.Sizes.{Openable, openable, refused-into}
 
@@ -21,7 +20,7 @@ abbrev netOf : Reply Totals → ℕ
 netOf (refused n) = 0
 netOf (done k) = k .net
 
-module _ (key tape scratch : List ℕ) (only-text : openRefusal key tape scratch ≡ textRefusal key tape) where
+module _ (key tape scratch : List ℕ) (only-text : openTapeRefusal key tape scratch ≡ textRefusal key tape) where
   abbrev o : Openable key tape scratch
   o = openable key tape scratch only-text
 
@@ -55,12 +54,12 @@ module _ (key tape scratch : List ℕ) (only-text : openRefusal key tape scratch
           ∙ take-at (plainBytes key tape) (drop (length (plainBytes key tape)) scratch) (length tape - emptyTapeLength) plain-length
 
       totals-are : t ≡ totalsOf tickets
-      unfolding plainTotals ticketsLength
+      unfolding plainTotals isTicketsLength
       totals-are =
           t-is ∙ ap plainTotals plain-is
           ∙ rw (plain-length, eq-eqb _ 0 (o .tape-size .whole), le-leb _ _ (o .tape-size .few)) refl
 
-      number-is : openRefusal key tape scratch ≡ (8 if isRefused tickets else 0)
+      number-is : openTapeRefusal key tape scratch ≡ (8 if isRefused tickets else 0)
       number-is = only-text ∙ (unfold textRefusal in rw (verdict ∙ right))
 
       pub wrong-ticket : (n : ℕ) → t ≡ refused n → openScratch key tape scratch ≡ record { answer = refused 8; out = replicate (length scratch) 0 }
@@ -79,6 +78,6 @@ module _ (key tape scratch : List ℕ) (only-text : openRefusal key tape scratch
               → openScratch key tape scratch ≡ record { answer = done (record { tickets = ticketCount tape; net = k .net }); out = after }
           by (refused m) d f = absurd (let z : _≡_ {A = ℕ} 0 1 = cc in omega arith)
           by (done ts) d f =
-              let number : openRefusal key tape scratch ≡ 0 = number-is ∙ ap (λ (u : Reply (List Ticket)). 8 if isRefused u else 0) d in
+              let number : openTapeRefusal key tape scratch ≡ 0 = number-is ∙ ap (λ (u : Reply (List Ticket)). 8 if isRefused u else 0) d in
               rw (number, d)
               (ap₂ (λ (n : ℕ) (l : List ℕ). record { answer = done (record { tickets = ticketCount tape; net = n }); out = l }) (sym (ap netOf f)) (sym text-written))

@@ -7,9 +7,7 @@ use native.Mathlib.Omega.{arith}
 use lib.Dec.{ltb}
 use lib.ListN.{length, take, drop, replicate}
 use lib.Seq.{take-all}
-use Rattle.acorn_model.specs.Bits.{_if_else_}
-use Rattle.acorn_model.specs.Calls.{Reply, accepted, unlessRefused, writtenOver}
-use Rattle.acorn_model.specs.Message.{Result, resultOf}
+use Rattle.calls.specs.Calls.{_if_else_, Reply, accepted, unlessRefused, writtenOver, Result, resultOf}
 use Rattle.tape_model.specs.declared.Ticket.{Ticket}
 use Rattle.tape_model.specs.declared.Head.{Head}
 use Rattle.tape_model.specs.Ticket.{ticketRule, packTicket, headLength, headRule, packHead, packHeadInto}

@@ -7,13 +7,12 @@ use native.Mathlib.Omega.{arith}
 use lib.Dec.{eqb, ltb}
 use lib.ListN.{length, replicate}
 use borrow.Author.Tests.{ltb-false, ne-eqb}
-use Rattle.acorn_model.specs.Bits.{_if_else_}
-use Rattle.acorn_model.specs.Calls.{refused, unlessRefused}
+use Rattle.calls.specs.Calls.{_if_else_, refused, unlessRefused, resultOf}
 use Rattle.acorn_model.specs.Machine.{keyLength}
-use Rattle.acorn_model.specs.Message.{resultOf, tagMatches}
-use Rattle.acorn_model.proofs.Refusals.{refused-if}
+use Rattle.acorn_model.specs.Message.{tagMatches}
+use Rattle.calls.proofs.Refusals.{refused-if}
 use Rattle.tape_model.specs.Ticket.{ticketLength, unpackHead}
-use Rattle.tape_model.specs.Tape.{ticketLimit, nonceOf, unpackTickets, isRefused, emptyTapeLength, tapeLength, headBytes, sealedBytes, ticketCount, plainBytes, openRefusal, openTape}
+use Rattle.tape_model.specs.Tape.{ticketLimit, nonceOf, unpackTickets, isRefused, emptyTapeLength, isTapeLength, headBytes, sealedBytes, ticketCount, plainBytes, openTapeRefusal, openTape}
 use Rattle.tape_model.proofs.Opening.{TapeSize, sizes-told, text-length}
 use Rattle.tape.specs.Contracts.{textRefusal, scratchAfter, openScratch}
 
@@ -37,45 +36,45 @@ pub record Openable (key tape out : List ℕ) : Type 0 where
   pub room : length tape - emptyTapeLength ≤ length out
 
 module _ (key tape out : List ℕ) where
-  pub refused-with : (n : ℕ) → openRefusal key tape out ≡ suc n → openTape key tape out ≡ record { answer = refused (suc n); out = out }
+  pub refused-with : (n : ℕ) → openTapeRefusal key tape out ≡ suc n → openTape key tape out ≡ record { answer = refused (suc n); out = out }
   unfolding openTape resultOf unlessRefused
   refused-with n e = rw e
 
   -- the same into a scratch: it is all zeros where the number is 7 or 8
-  pub refused-into : (n : ℕ) (cleared : Bool) → (eqb (suc n) 7 || eqb (suc n) 8) ≡ cleared → openRefusal key tape out ≡ suc n
+  pub refused-into : (n : ℕ) (cleared : Bool) → (eqb (suc n) 7 || eqb (suc n) 8) ≡ cleared → openTapeRefusal key tape out ≡ suc n
       → openScratch key tape out ≡ record { answer = refused (suc n); out = replicate (length out) 0 if cleared else out }
   unfolding openScratch scratchAfter openTape resultOf unlessRefused
   refused-into n cleared h e = rw (e, ne-eqb (suc n) 0 (λ w. omega arith), h)
 
-  module _ (n : ℕ) (number : openRefusal key tape out ≡ unlessRefused n (textRefusal key tape) n) where
+  module _ (n : ℕ) (number : openTapeRefusal key tape out ≡ unlessRefused n (textRefusal key tape) n) where
     pub sent-back : (n ≡ 0 → ⊥) → openTape key tape out ≡ record { answer = refused n; out = out }
     sent-back h = by n (number ∙ refused-if n (textRefusal key tape) n h) h
       where
-        by : (m : ℕ) → openRefusal key tape out ≡ m → (m ≡ 0 → ⊥) → openTape key tape out ≡ record { answer = refused m; out = out }
+        by : (m : ℕ) → openTapeRefusal key tape out ≡ m → (m ≡ 0 → ⊥) → openTape key tape out ≡ record { answer = refused m; out = out }
         by zero e z = absurd (z refl)
         by (suc m) e z = refused-with m e
 
     pub sent-back-at-once : (n ≡ 0 → ⊥) → n ≤ 6 → openScratch key tape out ≡ record { answer = refused n; out = out }
     sent-back-at-once h small = by n (number ∙ refused-if n (textRefusal key tape) n h) h small
       where
-        by : (m : ℕ) → openRefusal key tape out ≡ m → (m ≡ 0 → ⊥) → m ≤ 6 → openScratch key tape out ≡ record { answer = refused m; out = out }
+        by : (m : ℕ) → openTapeRefusal key tape out ≡ m → (m ≡ 0 → ⊥) → m ≤ 6 → openScratch key tape out ≡ record { answer = refused m; out = out }
         by zero e z l = absurd (z refl)
         by (suc m) e z l = refused-into m false (rw (ne-eqb (suc m) 7 (λ w. omega arith), ne-eqb (suc m) 8 (λ w. omega arith))) e
 
-    pub let-through : n ≡ 0 → openRefusal key tape out ≡ textRefusal key tape
+    pub let-through : n ≡ 0 → openTapeRefusal key tape out ≡ textRefusal key tape
     unfolding unlessRefused
     let-through e = number ∙ ap (λ (k : ℕ). unlessRefused k (textRefusal key tape) k) e
 
-  pub openable : openRefusal key tape out ≡ textRefusal key tape → Openable key tape out
-  unfolding openRefusal textRefusal
+  pub openable : openTapeRefusal key tape out ≡ textRefusal key tape → Openable key tape out
+  unfolding openTapeRefusal textRefusal
   openable e =
       let matches = tagMatches key (nonceOf (headBytes tape)) (headBytes tape) (sealedBytes tape) in
       let fails = isRefused (unpackTickets (ticketCount tape) (plainBytes key tape)) in
       let not-number = by-text matches fails in
-      let p = passed (not (eqb (length key) keyLength && tapeLength (length tape))) (isRefused (unpackHead (headBytes tape))) (ltb (length out) (ticketLength * ticketCount tape)) (textRefusal key tape)
+      let p = passed (not (eqb (length key) keyLength && isTapeLength (length tape))) (isRefused (unpackHead (headBytes tape))) (ltb (length out) (ticketLength * ticketCount tape)) (textRefusal key tape)
       (not-number 2 (omega arith) (omega arith) (omega arith)) (not-number 3 (omega arith) (omega arith) (omega arith)) (not-number 6 (omega arith) (omega arith) (omega arith)) e in
-      let sizes = sizes-told key (length tape) (tapeLength (length tape)) refl (p .0) in
+      let sizes = sizes-told key (length tape) (isTapeLength (length tape)) refl (p .0) in
       record { key-size = sizes .0; tape-size = sizes .1; room = omega (arith, text-length (length tape) (sizes .1), ltb-false (length out) (ticketLength * ticketCount tape) (p .1)) }
 
-  pub text-limit : openRefusal key tape out ≡ textRefusal key tape → length tape ≤ ticketLength * ticketLimit + emptyTapeLength
+  pub text-limit : openTapeRefusal key tape out ≡ textRefusal key tape → length tape ≤ ticketLength * ticketLimit + emptyTapeLength
   text-limit e = let size = openable e .tape-size in omega (arith, size .few, text-length (length tape) size)

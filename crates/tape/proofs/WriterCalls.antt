@@ -3,8 +3,8 @@ use mathlib.Core.Path.{_≡_, refl, sym, ap, _∙_}
 use mathlib.Core.List.{List, []}
 use Prim.Native.Nat.{ℕ, zero, suc, _<_, _^_}
 use native.Mathlib.Omega.{arith}
-use Rattle.acorn_model.specs.declared.Answer.the-variants.{Refused, Done}
-use Rattle.acorn_model.specs.Calls.{Reply, refused, done, Work, answerReply, unlessRefused, writtenOver, Outcome, refusedWith}
+use Rattle.calls.specs.declared.Answer.the-variants.{Refused, Done}
+use Rattle.calls.specs.Calls.{Reply, refused, done, Work, answerReply, unlessRefused, writtenOver, Outcome, refusedWith}
 use Rattle.acorn_model.specs.Machine as machine
 use Rattle.acorn_model.specs.Machine.{Machine, begin, dataCall, sealText, sealClose, wrote, answered}
 use Rattle.tape_model.specs.declared.Head.{Head}
@@ -13,7 +13,7 @@ use Rattle.tape_model.specs.declared.WriterPhase.the-variants.{Open}
 use Rattle.tape_model.specs.Ticket.{headLength, packHead}
 use Rattle.tape_model.specs.Writer.{PlainWriter, WriterCall, outputOf, refusal, onAnswer, passedOn, started, start, work, writerCall}
 use Rattle.tape_model.specs.Tape.{nonceOf}
-use Rattle.acorn_model.proofs.Refusals.{refused-if, accepted-if}
+use Rattle.calls.proofs.Refusals.{refused-if, accepted-if}
 use Rattle.tape_model.proofs.Refusals.{WriterPassed, writer-passed}
 use Rattle.session.specs.declared.Session.{Session}
 use Rattle.session.specs.declared.Reply.{Reply as SessionReply}
@@ -22,7 +22,7 @@ use Rattle.session.specs.Contracts.{machineOf, wrappedMachine, wrappedReply, wr
 use Rattle.session.proofs.Wrapping.{within, called-wrapped}
 use Rattle.tape.specs.declared.Writer.{Writer}
 use Rattle.tape.specs.declared.WriterReply.{WriterReply}
-use Rattle.tape.specs.Contracts.{writerOf, outcomeOf, wrappedWriter, wrappedWriterOutcome, WriterCalled, refusedReply, unlessBegun, headTaken}
+use Rattle.tape.specs.Contracts.{writerOf, writerOutcome, wrappedWriter, wrappedWriterOutcome, WriterCalled, refusedReply, unlessBegun, headTaken}
 
 -- ## By the number
 
@@ -41,9 +41,9 @@ module _ (w : Writer) (c : WriterCall) (n : ℕ) (e : n ≡ refusal (writerOf w)
 
   -- a refused call hands the writer on as it was
   pub refuses : (n ≡ 0 → ⊥) → w .session .steps < 2 ^ 64 → (r : WriterReply) → r ≡ refusedReply n w → WriterCalled w c r (outputOf c)
-  unfolding outcomeOf answerReply writerCall refusedWith
+  unfolding writerOutcome answerReply writerCall refusedWith
   refuses z h r is =
-      ap (λ (x : WriterReply). outcomeOf x (outputOf c)) is ∙ ap (λ (p : PlainWriter). refusedWith n p (outputOf c)) (stays w h) ∙ sym (refused-wrapped n (writerOf w) (outputOf c))
+      ap (λ (x : WriterReply). writerOutcome x (outputOf c)) is ∙ ap (λ (p : PlainWriter). refusedWith n p (outputOf c)) (stays w h) ∙ sym (refused-wrapped n (writerOf w) (outputOf c))
       ∙ ap wrappedWriterOutcome (rw (← e) (sym (refused-if n (work (writerOf w) c) (refusedWith n (writerOf w) (outputOf c)) z)))
 
   -- an accepted call does its work
@@ -74,15 +74,15 @@ module _ (a : Reply Work) (goOn : Work → Outcome PlainWriter Work) (w : PlainW
       by (done j) f g = g j f
 
 -- a session's reply, and its output after it, come to o
-module _ (r : SessionReply) (after : List ℕ) (o : Outcome Machine Work) (e : session.outcomeOf r after ≡ wrappedOutcome o) where
+module _ (r : SessionReply) (after : List ℕ) (o : Outcome Machine Work) (e : session.sessionOutcome r after ≡ wrappedOutcome o) where
   next-is : machineOf (r .session) ≡ wrappedMachine (o .next)
-  next-is = unfold session.outcomeOf wrappedOutcome in λ i. e i .next
+  next-is = unfold session.sessionOutcome wrappedOutcome in λ i. e i .next
 
   answer-is : answerReply (r .answer) ≡ wrappedReply (o .answer)
-  answer-is = unfold session.outcomeOf wrappedOutcome in λ i. e i .answer
+  answer-is = unfold session.sessionOutcome wrappedOutcome in λ i. e i .answer
 
   out-is : after ≡ o .out
-  out-is = unfold session.outcomeOf wrappedOutcome in λ i. e i .out
+  out-is = unfold session.sessionOutcome wrappedOutcome in λ i. e i .out
 
   says-refused : (n : ℕ) → r .answer ≡ Refused n → wrappedReply (o .answer) ≡ refused n
   says-refused n d = sym answer-is ∙ (unfold answerReply in ap answerReply d)
@@ -94,9 +94,9 @@ module _ (r : SessionReply) (after : List ℕ) (o : Outcome Machine Work) (e : s
 
   module _ (w : Writer) (phase : WriterPhase) (tickets : ℕ) (out : List ℕ) where
     pub passed : (n k : ℕ) → r .answer ≡ Done n k
-        → outcomeOf (record { answer = r .answer; writer = record { session = r .session; tickets = tickets; phase = phase } }) after
+        → writerOutcome (record { answer = r .answer; writer = record { session = r .session; tickets = tickets; phase = phase } }) after
         ≡ wrappedWriterOutcome (passedOn o phase tickets (writerOf w) out)
-    unfolding outcomeOf writerOf passedOn wrappedWriterOutcome wrappedWriter
+    unfolding writerOutcome writerOf passedOn wrappedWriterOutcome wrappedWriter
     passed n k d =
         let f = says-done n k d in
         (λ i. record { next = record { machine = next-is i; phase = phase; tickets = tickets }; answer = (answer-is ∙ f) i; out = out-is i })
@@ -104,8 +104,8 @@ module _ (r : SessionReply) (after : List ℕ) (o : Outcome Machine Work) (e : s
         (λ j g i. record { next = record { machine = wrappedMachine (o .next); phase = phase; tickets = tickets }; answer = g i; out = o .out }))
 
     pub stopped : (n : ℕ) → r .answer ≡ Refused n → o .out ≡ out → w .session .steps < 2 ^ 64
-        → outcomeOf (record { answer = r .answer; writer = w }) after ≡ wrappedWriterOutcome (passedOn o phase tickets (writerOf w) out)
-    unfolding outcomeOf passedOn refusedWith
+        → writerOutcome (record { answer = r .answer; writer = w }) after ≡ wrappedWriterOutcome (passedOn o phase tickets (writerOf w) out)
+    unfolding writerOutcome passedOn refusedWith
     stopped n d kept h =
         let f = says-refused n d in
         (λ i. record { next = stays w h i; answer = (answer-is ∙ f) i; out = (out-is ∙ kept) i })
@@ -120,14 +120,14 @@ kept-out (suc k) written out next m n e = refl
 
 module _ (w : Writer) (r : SessionReply) (out after : List ℕ) (phase : WriterPhase) (tickets n : ℕ) (d : r .answer ≡ Refused n) (h : w .session .steps < 2 ^ 64) where
   pub text-stopped : (piece : List ℕ) → Called (w .session) (sealText piece out) r after
-      → outcomeOf (record { answer = r .answer; writer = w }) after
+      → writerOutcome (record { answer = r .answer; writer = w }) after
       ≡ wrappedWriterOutcome (passedOn (machine.call (machineOf (w .session)) (sealText piece out)) phase tickets (writerOf w) out)
   text-stopped piece e =
       stopped r after _ e w phase tickets out n d
       (unfold machine.call machine.work machine.outputOf in kept-out _ _ out _ _ n (says-refused r after _ e n d)) h
 
   pub close-stopped : Called (w .session) (sealClose out) r after
-      → outcomeOf (record { answer = r .answer; writer = w }) after
+      → writerOutcome (record { answer = r .answer; writer = w }) after
       ≡ wrappedWriterOutcome (passedOn (machine.call (machineOf (w .session)) (sealClose out)) phase tickets (writerOf w) out)
   close-stopped e =
       stopped r after _ e w phase tickets out n d
@@ -143,7 +143,7 @@ module _ (s : Session) (key head : List ℕ) (r : SessionReply) (e : Called s (b
   taken = machine.call (begun .next) (dataCall head)
 
   -- begin is refused
-  pub not-begun : (n : ℕ) → r .answer ≡ Refused n → session.outcomeOf r [] ≡ wrappedOutcome (headTaken (machineOf s) key head)
+  pub not-begun : (n : ℕ) → r .answer ≡ Refused n → session.sessionOutcome r [] ≡ wrappedOutcome (headTaken (machineOf s) key head)
   unfolding headTaken wrappedReply
   not-begun n d = e ∙ ap wrappedOutcome (by (begun .answer) (says-refused r [] begun e n d))
     where
@@ -153,7 +153,7 @@ module _ (s : Session) (key head : List ℕ) (r : SessionReply) (e : Called s (b
 
   -- begin is accepted, and data follows
   pub then-taken : (n k : ℕ) → r .answer ≡ Done n k → (r′ : SessionReply) → Called (r .session) (dataCall head) r′ []
-      → session.outcomeOf r′ [] ≡ wrappedOutcome (headTaken (machineOf s) key head)
+      → session.sessionOutcome r′ [] ≡ wrappedOutcome (headTaken (machineOf s) key head)
   unfolding headTaken wrappedReply
   then-taken n k d r′ called =
       called-wrapped (r .session) (dataCall head) r′ [] (begun .next) (next-is r [] begun e) called
@@ -213,18 +213,18 @@ module _ (w : PlainWriter) (head : Head) (out : List ℕ) (begun taken : Outcome
           })
 
 module _ (w : Writer) (key : List ℕ) (head : Head) (out : List ℕ) (r : SessionReply)
-    (e : session.outcomeOf r [] ≡ wrappedOutcome (headTaken (machineOf (w .session)) key (packHead head))) where
+    (e : session.sessionOutcome r [] ≡ wrappedOutcome (headTaken (machineOf (w .session)) key (packHead head))) where
   pub not-started : (n : ℕ) → r .answer ≡ Refused n → w .session .steps < 2 ^ 64
-      → outcomeOf (record { answer = r .answer; writer = w }) out ≡ wrappedWriterOutcome (work (writerOf w) (start key head out))
-  unfolding outcomeOf work writerOf headTaken refusedWith
+      → writerOutcome (record { answer = r .answer; writer = w }) out ≡ wrappedWriterOutcome (work (writerOf w) (start key head out))
+  unfolding writerOutcome work writerOf headTaken refusedWith
   not-started n d h =
       let f = says-refused r [] _ e n d in
       (λ i. record { next = stays w h i; answer = (answer-is r [] _ e ∙ f) i; out = out }) ∙ sym (start-refused (writerOf w) head out _ _ n f)
 
   pub head-written : (n steps : ℕ) → r .answer ≡ Done n steps → (after : List ℕ) → after ≡ writtenOver (packHead head) out
-      → outcomeOf (record { answer = Done headLength steps; writer = record { session = r .session; tickets = w .tickets; phase = Open } }) after
+      → writerOutcome (record { answer = Done headLength steps; writer = record { session = r .session; tickets = w .tickets; phase = Open } }) after
       ≡ wrappedWriterOutcome (work (writerOf w) (start key head out))
-  unfolding outcomeOf work writerOf headTaken answerReply
+  unfolding writerOutcome work writerOf headTaken answerReply
   head-written n steps d after written =
       (λ i. record {
         next = record { machine = next-is r [] _ e i; phase = Open; tickets = w .tickets };

@@ -6,12 +6,11 @@ use mathlib.Core.List.{List}
 use Prim.Native.Nat.{ℕ}
 use lib.Dec.{eqb}
 use lib.ListN.{length, replicate}
-use Rattle.acorn_model.specs.declared.Answer.the-variants.{Refused}
-use Rattle.acorn_model.specs.Bits.{_if_else_}
-use Rattle.acorn_model.specs.Calls.{Reply, refused, done, Work, accepted, Outcome, answerReply, writtenOver}
+use Rattle.calls.specs.declared.Answer.the-variants.{Refused}
+use Rattle.calls.specs.Calls.{_if_else_, Reply, refused, done, Work, accepted, Outcome, answerReply, writtenOver, Result}
 use Rattle.acorn_model.specs.Machine.{Machine, begin, dataCall, call}
-use Rattle.acorn_model.specs.Message.{Result, tagMatches}
-use Rattle.tape_model.specs.Tape.{nonceOf, unpackTickets, isRefused, Totals, headBytes, sealedBytes, ticketCount, plainBytes, openRefusal, openTape}
+use Rattle.acorn_model.specs.Message.{tagMatches}
+use Rattle.tape_model.specs.Tape.{nonceOf, unpackTickets, isRefused, Totals, headBytes, sealedBytes, ticketCount, plainBytes, openTapeRefusal, openTape}
 use Rattle.tape_model.specs.Writer.{PlainWriter, WriterCall, phaseAllows, keyRight, headRight, ticketRight, tapeFull, outputShort, refusal, writerCall}
 use Rattle.session.specs.Contracts.{machineOf, wrappedMachine, wrappedReply}
 use Rattle.tape.specs.declared.Writer.{Writer}
@@ -22,8 +21,8 @@ unfoldable pub writerOf : Writer → PlainWriter
 writerOf w = record { machine = machineOf (w .session); phase = w .phase; tickets = w .tickets }
 
 -- what a call's reply, and its output after it, come to
-unfoldable pub outcomeOf : WriterReply → List ℕ → Outcome PlainWriter Work
-outcomeOf r out = record { next = writerOf (r .writer); answer = answerReply (r .answer); out = out }
+unfoldable pub writerOutcome : WriterReply → List ℕ → Outcome PlainWriter Work
+writerOutcome r out = record { next = writerOf (r .writer); answer = answerReply (r .answer); out = out }
 
 -- ## Counting in 64 bits: the session's count of steps wraps around at 2 ^ 64
 
@@ -37,7 +36,7 @@ wrappedWriterOutcome o = record { next = wrappedWriter (o .next); answer = wrapp
 
 -- the call c of the writer w gave the reply r and left `out` in its output
 abbrev pub WriterCalled : Writer → WriterCall → WriterReply → List ℕ → Type 0
-WriterCalled w c r out = outcomeOf r out ≡ wrappedWriterOutcome (writerCall (writerOf w) c)
+WriterCalled w c r out = writerOutcome r out ≡ wrappedWriterOutcome (writerCall (writerOf w) c)
 
 -- ## What the private functions cite
 
@@ -80,4 +79,4 @@ scratchAfter number text scratch =
 
 -- what an opening into a scratch comes to: its answer is that of `openTape` with the scratch as output
 unfoldable pub openScratch : List ℕ → List ℕ → List ℕ → Result Totals
-openScratch key tape scratch = record { answer = openTape key tape scratch .answer; out = scratchAfter (openRefusal key tape scratch) (plainBytes key tape) scratch }
+openScratch key tape scratch = record { answer = openTape key tape scratch .answer; out = scratchAfter (openTapeRefusal key tape scratch) (plainBytes key tape) scratch }

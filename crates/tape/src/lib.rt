@@ -6,8 +6,8 @@ mod refusal;
 mod sized;
 mod words;
 
-use acorn_model::Answer;
 use acorn_model::Kind;
+use calls::Answer;
 use opening::open_by;
 use opening::open_refusal;
 use opening::open_text;
@@ -24,12 +24,12 @@ use tape_model::WriterPhase;
 ghost use mathlib.Core.Path.{_≡_};
 ghost use mathlib.Core.List.{[]};
 ghost use lib.ListN.{length, replicate};
-ghost use Rattle.acorn_model.specs.Bits.{_if_else_};
+ghost use Rattle.calls.specs.Calls.{_if_else_};
 ghost use Rattle.acorn_model.specs.Machine.{isText};
 ghost use Rattle.tape_model.specs.Ticket.{headLength, headRule, packHead};
 ghost use Rattle.tape_model.specs.Tape.{nonceOf, openTape, openedReply};
 ghost use Rattle.tape_model.specs.Writer as plain;
-ghost use Rattle.session.specs.Contracts.{machineOf, outcomeOf, wrappedOutcome};
+ghost use Rattle.session.specs.Contracts.{machineOf, sessionOutcome, wrappedOutcome};
 ghost use Rattle.tape.specs.Contracts.{writerOf, WriterCalled, refusedReply, headTaken, openScratch};
 
 pub struct Writer {
@@ -66,7 +66,7 @@ fn nonce_of(head: &[u8]) -> [u8; 16]
 // The session's begin, and then data with the head's bytes.
 fn begin_with_head(session: Session, key: &[u8], head: &[u8]) -> Reply
     requires { ⌜ length (now head) ≡ headLength ⌝ }
-    ensures { λ r. ⌜ outcomeOf r [] ≡ wrappedOutcome (headTaken (machineOf session) (now (key .entry)) (now (head .entry))) ⌝ }
+    ensures { λ r. ⌜ sessionOutcome r [] ≡ wrappedOutcome (headTaken (machineOf session) (now (key .entry)) (now (head .entry))) ⌝ }
 {
     let nonce = nonce_of(head);
     let begun = session.begin(key, &nonce);

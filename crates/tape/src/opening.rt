@@ -11,29 +11,29 @@ use acorn::tag;
 use compare::same_bytes;
 use tape_model::OpenedTape;
 use tape_model::UnpackedHead;
-use ticket::tickets_length;
+use ticket::is_tickets_length;
 use zeroize::zeroize;
 ghost use mathlib.Core.Path.{_≡_};
 ghost use Prim.Native.Nat.{_+_, _≤_};
 ghost use lib.ListN.{length, replicate};
-ghost use Rattle.acorn_model.specs.Stretches.{tagLength, afterData};
-ghost use Rattle.acorn_model.specs.Calls.{unlessRefused, writtenOver};
+ghost use Rattle.acorn_model.specs.Stretches.{afterData};
+ghost use Rattle.calls.specs.Calls.{unlessRefused, writtenOver};
 ghost use Rattle.acorn_model.specs.Machine.{keyLength};
 ghost use Rattle.acorn_model.specs.Message.{tagMatches, opened};
 ghost use Rattle.acorn_kernel.specs.Together.{stateOf};
 ghost use Rattle.tape_model.specs.declared.OpenedTape.the-variants.{Refused};
 ghost use Rattle.tape_model.specs.Ticket.{headLength, unpackHead};
-ghost use Rattle.tape_model.specs.Tape.{nonceOf, isRefused, emptyTapeLength, tapeLength, openRefusal, openTape, openedReply};
+ghost use Rattle.tape_model.specs.Tape.{tapeTagLength, nonceOf, isRefused, emptyTapeLength, isTapeLength, openTapeRefusal, openTape, openedReply};
 ghost use Rattle.tape.specs.Contracts.{textRefusal, openScratch};
 
 // Whether so many bytes are those of a tape.
-fn tape_length(n: usize) -> bool
-    ensures { λ r. ⌜ r ≡ tapeLength n ⌝ }
+fn is_tape_length(n: usize) -> bool
+    ensures { λ r. ⌜ r ≡ isTapeLength n ⌝ }
 {
     if n < 25 {
         return false;
     }
-    tickets_length(n - 25)
+    is_tickets_length(n - 25)
 }
 
 // Whether a field of a head is outside its range.
@@ -48,10 +48,10 @@ fn head_refused(head: &[u8]) -> bool
 
 // The number that sends an opening back before a step is run; 0 where none does, and the tag and the tickets decide.
 pub(crate) fn open_refusal(key: &[u8], tape: &[u8], out: &[u8]) -> u8
-    ensures { λ r. ⌜ openRefusal (now (key .entry)) (now (tape .entry)) (now (out .entry)) ≡ unlessRefused r (textRefusal (now (key .entry)) (now (tape .entry))) r ⌝ }
+    ensures { λ r. ⌜ openTapeRefusal (now (key .entry)) (now (tape .entry)) (now (out .entry)) ≡ unlessRefused r (textRefusal (now (key .entry)) (now (tape .entry))) r ⌝ }
     ensures { λ r. ⌜ r ≤ 6 ⌝ }
 {
-    let sized = tape_length(tape.len());
+    let sized = is_tape_length(tape.len());
     if !((key.len() == 16) & sized) {
         return 2;
     }
@@ -75,7 +75,7 @@ fn after_head(key: &[u8], head: &[u8]) -> State
 
 // Decrypts the text of sealed bytes into the scratch, and says whether their tag matches.
 fn decrypted(scratch: &mut [u8], key: &[u8], head: &[u8], sealed: &[u8]) -> bool
-    requires { ⌜ (length (now key) ≡ keyLength) × (length (now head) ≡ headLength) × (tagLength ≤ length (now sealed)) × (length (now sealed) ≤ length (now scratch) + tagLength) ⌝ }
+    requires { ⌜ (length (now key) ≡ keyLength) × (length (now head) ≡ headLength) × (tapeTagLength ≤ length (now sealed)) × (length (now sealed) ≤ length (now scratch) + tapeTagLength) ⌝ }
     ensures { λ r. ⌜ r ≡ tagMatches (now (key .entry)) (nonceOf (now (head .entry))) (now (head .entry)) (now (sealed .entry)) ⌝ }
     ensures { λ _. ⌜ now (scratch .exit) ≡ writtenOver (opened (now (key .entry)) (nonceOf (now (head .entry))) (now (head .entry)) (now (sealed .entry))) (now (scratch .entry)) ⌝ }
 {
@@ -96,7 +96,7 @@ fn sent_back(number: u8, scratch: &mut [u8]) -> OpenedTape
 // The opening of a tape that only its tag and its tickets can send back, with its text in the scratch: the tag is known, and the tickets are
 // read, only when the text stands there.
 pub(crate) fn open_text(scratch: &mut [u8], key: &[u8], tape: &[u8]) -> OpenedTape
-    requires { ⌜ openRefusal (now key) (now tape) (now scratch) ≡ textRefusal (now key) (now tape) ⌝ }
+    requires { ⌜ openTapeRefusal (now key) (now tape) (now scratch) ≡ textRefusal (now key) (now tape) ⌝ }
     ensures { λ r. ⌜ openScratch (now (key .entry)) (now (tape .entry)) (now (scratch .entry)) ≡ record { answer = openedReply r; out = now (scratch .exit) } ⌝ }
 {
     let good = decrypted(scratch, key, &tape[..9], &tape[9..]);
@@ -113,7 +113,7 @@ pub(crate) fn open_text(scratch: &mut [u8], key: &[u8], tape: &[u8]) -> OpenedTa
 
 // The same with an output: the text is copied there from the scratch once nothing sends the tape back. The scratch is left as by `open_text`.
 pub(crate) fn open_by(scratch: &mut [u8], key: &[u8], tape: &[u8], out: &mut [u8]) -> OpenedTape
-    requires { ⌜ (length (now tape) ≤ length (now scratch) + emptyTapeLength) × (openRefusal (now key) (now tape) (now out) ≡ textRefusal (now key) (now tape)) ⌝ }
+    requires { ⌜ (length (now tape) ≤ length (now scratch) + emptyTapeLength) × (openTapeRefusal (now key) (now tape) (now out) ≡ textRefusal (now key) (now tape)) ⌝ }
     ensures { λ r. ⌜ openTape (now (key .entry)) (now (tape .entry)) (now (out .entry)) ≡ record { answer = openedReply r; out = now (out .exit) } ⌝ }
     ensures { λ _. ⌜ now (scratch .exit) ≡ openScratch (now (key .entry)) (now (tape .entry)) (now (scratch .entry)) .out ⌝ }
 {

@@ -4,11 +4,11 @@ use tape_model::OpenedTape;
 ghost use mathlib.Core.Path.{_≡_};
 ghost use Prim.Native.Nat.{_+_, _≤_};
 ghost use lib.ListN.{length};
-ghost use Rattle.tape_model.specs.Tape.{emptyTapeLength, openRefusal, openTape, openedReply};
+ghost use Rattle.tape_model.specs.Tape.{emptyTapeLength, openTapeRefusal, openTape, openedReply};
 ghost use Rattle.tape.specs.Contracts.{textRefusal};
 
 fn open_2048(key: &[u8], tape: &[u8], out: &mut [u8]) -> OpenedTape
-    requires { ⌜ (length (now tape) ≤ 2048 + emptyTapeLength) × (openRefusal (now key) (now tape) (now out) ≡ textRefusal (now key) (now tape)) ⌝ }
+    requires { ⌜ (length (now tape) ≤ 2048 + emptyTapeLength) × (openTapeRefusal (now key) (now tape) (now out) ≡ textRefusal (now key) (now tape)) ⌝ }
     ensures { λ r. ⌜ openTape (now (key .entry)) (now (tape .entry)) (now (out .entry)) ≡ record { answer = openedReply r; out = now (out .exit) } ⌝ }
 {
     let mut scratch = [0; 2048];
@@ -16,7 +16,7 @@ fn open_2048(key: &[u8], tape: &[u8], out: &mut [u8]) -> OpenedTape
 }
 
 fn open_8192(key: &[u8], tape: &[u8], out: &mut [u8]) -> OpenedTape
-    requires { ⌜ (length (now tape) ≤ 8192 + emptyTapeLength) × (openRefusal (now key) (now tape) (now out) ≡ textRefusal (now key) (now tape)) ⌝ }
+    requires { ⌜ (length (now tape) ≤ 8192 + emptyTapeLength) × (openTapeRefusal (now key) (now tape) (now out) ≡ textRefusal (now key) (now tape)) ⌝ }
     ensures { λ r. ⌜ openTape (now (key .entry)) (now (tape .entry)) (now (out .entry)) ≡ record { answer = openedReply r; out = now (out .exit) } ⌝ }
 {
     let mut scratch = [0; 8192];
@@ -24,7 +24,7 @@ fn open_8192(key: &[u8], tape: &[u8], out: &mut [u8]) -> OpenedTape
 }
 
 fn open_65000(key: &[u8], tape: &[u8], out: &mut [u8]) -> OpenedTape
-    requires { ⌜ (length (now tape) ≤ 65000 + emptyTapeLength) × (openRefusal (now key) (now tape) (now out) ≡ textRefusal (now key) (now tape)) ⌝ }
+    requires { ⌜ (length (now tape) ≤ 65000 + emptyTapeLength) × (openTapeRefusal (now key) (now tape) (now out) ≡ textRefusal (now key) (now tape)) ⌝ }
     ensures { λ r. ⌜ openTape (now (key .entry)) (now (tape .entry)) (now (out .entry)) ≡ record { answer = openedReply r; out = now (out .exit) } ⌝ }
 {
     let mut scratch = [0; 65000];
@@ -35,7 +35,7 @@ fn open_65000(key: &[u8], tape: &[u8], out: &mut [u8]) -> OpenedTape
 // one frame every tape would have the stack of the longest. It takes no large array into a function that calls itself, so there is such a
 // call, in a branch that no tape comes to.
 pub(crate) fn open_long(key: &[u8], tape: &[u8], out: &mut [u8]) -> OpenedTape
-    requires { ⌜ openRefusal (now key) (now tape) (now out) ≡ textRefusal (now key) (now tape) ⌝ }
+    requires { ⌜ openTapeRefusal (now key) (now tape) (now out) ≡ textRefusal (now key) (now tape) ⌝ }
     ensures { λ r. ⌜ openTape (now (key .entry)) (now (tape .entry)) (now (out .entry)) ≡ record { answer = openedReply r; out = now (out .exit) } ⌝ }
 {
     if 65000 + 25 < tape.len() {

@@ -7,8 +7,8 @@ use native.Mathlib.Omega.{arith}
 use lib.Dec.{eqb}
 use lib.ListN.{length}
 use borrow.Author.Tests.{eqb-true, eq-eqb}
-use Rattle.acorn_model.specs.Bits.{_if_else_, AreBytes}
-use Rattle.acorn_model.specs.Calls.{Reply, refused, done}
+use Rattle.calls.specs.Calls.{AreBytes}
+use Rattle.calls.specs.Calls.{_if_else_, Reply, refused, done}
 use Rattle.tape_model.specs.Format.{Field, widths, inRanges, totalWidth, join, cut, byteWidths, pack, unpack}
 use Rattle.tape_model.specs.Laws.{Inverse}
 use Rattle.tape_model.proofs.Widths.{recut}

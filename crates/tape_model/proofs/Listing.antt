@@ -8,11 +8,11 @@ use native.Mathlib.Omega.{arith}
 use lib.Dec.{ltb, eqb}
 use lib.ListN.{length, getD, take, drop, length-append, length-take}
 use borrow.Author.Tests.{ltb-true, ltb-false, lt-ltb, le-ltb, ne-eqb}
-use Rattle.acorn_model.specs.Bits.{_if_else_}
+use Rattle.calls.specs.Calls.{_if_else_}
 use Rattle.tape_model.specs.declared.Ticket.{Ticket}
 use Rattle.tape_model.specs.Ticket.{net}
 use Rattle.acorn_model.specs.Machine.{keyLength}
-use Rattle.tape_model.specs.Tape.{ticketsLength, totalNet, tapeLength, openRefusal}
+use Rattle.tape_model.specs.Tape.{isTicketsLength, totalNet, isTapeLength, openTapeRefusal}
 use Rattle.tape_model.specs.Listing.{decimalBelow, decimal, numbers, headLine, ticketLine, ticketLines, totalLine, refusedLine, listed, listingUnless, listing, printed}
 use Rattle.tape_model.specs.Laws.{valueAfter, ListingLaws}
 
@@ -120,10 +120,10 @@ positions p (t ∷ ts) us =
 -- ## A key cut short
 
 short-key : (input : List ℕ) → length input < keyLength → printed input ≡ refusedLine 2
-unfolding printed listing listingUnless openRefusal
+unfolding printed listing listingUnless openTapeRefusal
 short-key input h =
     ap (λ (n : ℕ). listingUnless n (take keyLength input) (drop keyLength input))
-    (by (eqb (length (take keyLength input)) keyLength) (tapeLength (length (drop keyLength input))) _ (ne-eqb (length (take keyLength input)) keyLength (λ e. omega (arith, e, length-take keyLength input))))
+    (by (eqb (length (take keyLength input)) keyLength) (isTapeLength (length (drop keyLength input))) _ (ne-eqb (length (take keyLength input)) keyLength (λ e. omega (arith, e, length-take keyLength input))))
   where
     by : (a b : Bool) (n : ℕ) → a ≡ false → (2 if not (a && b) else n) ≡ 2
     by a b n e = rw e
@@ -131,7 +131,7 @@ short-key input h =
 -- ## All of it
 
 pub listing-laws : ListingLaws
-unfolding printed listing listingUnless listed headLine ticketLines ticketLine totalLine refusedLine numbers decimalBelow net totalNet openRefusal tapeLength ticketsLength
+unfolding printed listing listingUnless listed headLine ticketLines ticketLine totalLine refusedLine numbers decimalBelow net totalNet openTapeRefusal isTapeLength isTicketsLength
 listing-laws =
     record {
       digits = all-digits 20;

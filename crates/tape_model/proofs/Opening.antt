@@ -8,14 +8,14 @@ use lib.Dec.{eqb, leb, ltb}
 use lib.ListN.{length, take, drop, length-drop}
 use lib.Seq.{take-at}
 use borrow.Author.Tests.{eqb-true, leb-true, eq-eqb, le-leb, not-false}
-use Rattle.acorn_model.specs.Bits.{_if_else_}
-use Rattle.acorn_model.specs.Calls.{done, writtenOver}
+use Rattle.calls.specs.Calls.{_if_else_, done, writtenOver}
 use Rattle.acorn_model.specs.Machine.{keyLength}
 use Rattle.acorn_model.specs.Message.{tagMatches}
-use Rattle.acorn_model.proofs.Choices.{both}
-use Rattle.acorn_model.proofs.Messages.{done-told, opened-length}
+use Rattle.calls.proofs.Choices.{both}
+use Rattle.acorn_model.proofs.Messages.{opened-length}
+use Rattle.calls.proofs.Results.{done-told}
 use Rattle.tape_model.specs.Ticket.{ticketLength, headLength, unpackHead}
-use Rattle.tape_model.specs.Tape.{ticketLimit, nonceOf, ticketsLength, unpackTickets, isRefused, ticketsIn, totalNet, Totals, emptyTapeLength, tapeLength, headBytes, sealedBytes, ticketCount, plainBytes, openRefusal, openTape}
+use Rattle.tape_model.specs.Tape.{ticketLimit, nonceOf, isTicketsLength, unpackTickets, isRefused, ticketsIn, totalNet, Totals, emptyTapeLength, isTapeLength, headBytes, sealedBytes, ticketCount, plainBytes, openTapeRefusal, openTape}
 
 -- ## A tape's length
 
@@ -24,8 +24,8 @@ pub record TapeSize (n : ℕ) : Type 0 where
   pub whole : (n - emptyTapeLength) % ticketLength ≡ 0
   pub few : (n - emptyTapeLength) / ticketLength ≤ ticketLimit
 
-pub sizes-told : (key : List ℕ) (n : ℕ) (sized : Bool) → sized ≡ tapeLength n → not (eqb (length key) keyLength && sized) ≡ false → (length key ≡ keyLength) × TapeSize n
-unfolding tapeLength ticketsLength
+pub sizes-told : (key : List ℕ) (n : ℕ) (sized : Bool) → sized ≡ isTapeLength n → not (eqb (length key) keyLength && sized) ≡ false → (length key ≡ keyLength) × TapeSize n
+unfolding isTapeLength isTicketsLength
 sizes-told key n sized s e =
     let a = both (eqb (length key) keyLength) sized (not-false _ e) in
     let l = both (leb emptyTapeLength n) _ (sym s ∙ a .1) in
@@ -46,15 +46,15 @@ none-applied false false false true e h = absurd (omega arith)
 none-applied false false false false true h = absurd (omega arith)
 none-applied false false false false false h = (refl, refl)
 
-module _ (key tape out : List ℕ) (accepted : openRefusal key tape out ≡ 0) where
-  told : (not (eqb (length key) keyLength && tapeLength (length tape)) ≡ false) × (isRefused (unpackTickets (ticketCount tape) (plainBytes key tape)) ≡ false)
-  unfolding openRefusal
+module _ (key tape out : List ℕ) (accepted : openTapeRefusal key tape out ≡ 0) where
+  told : (not (eqb (length key) keyLength && isTapeLength (length tape)) ≡ false) × (isRefused (unpackTickets (ticketCount tape) (plainBytes key tape)) ≡ false)
+  unfolding openTapeRefusal
   told =
-      none-applied (not (eqb (length key) keyLength && tapeLength (length tape))) (isRefused (unpackHead (headBytes tape))) (ltb (length out) (ticketLength * ticketCount tape))
+      none-applied (not (eqb (length key) keyLength && isTapeLength (length tape))) (isRefused (unpackHead (headBytes tape))) (ltb (length out) (ticketLength * ticketCount tape))
       (not (tagMatches key (nonceOf (headBytes tape)) (headBytes tape) (sealedBytes tape))) (isRefused (unpackTickets (ticketCount tape) (plainBytes key tape))) accepted
 
   pub size : TapeSize (length tape)
-  size = sizes-told key (length tape) (tapeLength (length tape)) refl (told .0) .1
+  size = sizes-told key (length tape) (isTapeLength (length tape)) refl (told .0) .1
 
   pub tickets-good : isRefused (unpackTickets (ticketCount tape) (plainBytes key tape)) ≡ false
   tickets-good = told .1
@@ -68,18 +68,18 @@ module _ (key tape out : List ℕ) (accepted : openRefusal key tape out ≡ 0) w
   pub plain-count : length (plainBytes key tape) / ticketLength ≡ ticketCount tape
   plain-count = omega (arith, plain-length)
 
-  pub plain-sized : ticketsLength (length (plainBytes key tape)) ≡ true
-  unfolding ticketsLength
+  pub plain-sized : isTicketsLength (length (plainBytes key tape)) ≡ true
+  unfolding isTicketsLength
   plain-sized = rw (eq-eqb (length (plainBytes key tape) % ticketLength) 0 (omega (arith, plain-length)), le-leb (length (plainBytes key tape) / ticketLength) ticketLimit (omega (arith, plain-count, size .few)))
 
 -- ## What it answered and wrote
 
 module _ (key tape out : List ℕ) (k : Totals) (after : List ℕ) (e : openTape key tape out ≡ record { answer = done k; out = after }) where
-  result : (openRefusal key tape out ≡ 0) × (record { tickets = ticketCount tape; net = totalNet (ticketsIn (unpackTickets (ticketCount tape) (plainBytes key tape))) } ≡ k) × (writtenOver (plainBytes key tape) out ≡ after)
+  result : (openTapeRefusal key tape out ≡ 0) × (record { tickets = ticketCount tape; net = totalNet (ticketsIn (unpackTickets (ticketCount tape) (plainBytes key tape))) } ≡ k) × (writtenOver (plainBytes key tape) out ≡ after)
   unfolding openTape
   result = done-told _ _ _ out k after e
 
-  pub was-accepted : openRefusal key tape out ≡ 0
+  pub was-accepted : openTapeRefusal key tape out ≡ 0
   was-accepted = result .0
 
   pub count-is : k .tickets ≡ ticketCount tape

@@ -7,8 +7,8 @@ use native.Mathlib.Omega.{arith}
 use lib.Dec.{leb}
 use lib.ListN.{length, length-replicate}
 use borrow.Author.Tests.{leb-true}
-use Rattle.acorn_model.specs.Bits.{AreBytes}
-use Rattle.acorn_model.proofs.Choices.{both}
+use Rattle.calls.specs.Calls.{AreBytes}
+use Rattle.calls.proofs.Choices.{both}
 use Rattle.tape_model.specs.Format.{Field, _bits_to_, widths, inRange, inRanges, join, cut, Fit, byteWidths, pack}
 use Rattle.tape_model.proofs.Widths.{cut-fit}
 

@@ -4,20 +4,19 @@ use mathlib.Core.Bool.{Bool, true, _&&_, Bool·beq}
 use mathlib.Core.List.{List, [], _∷_}
 use lib.Dec.{eqb}
 use borrow.Author.Tests.{eqb-true}
-use Rattle.acorn_model.specs.Calls.{unlessRefused}
-use Rattle.acorn_model.specs.Message.{resultOf}
-use Rattle.acorn_model.proofs.Choices.{both}
+use Rattle.calls.specs.Calls.{unlessRefused, resultOf}
+use Rattle.calls.proofs.Choices.{both}
 use Rattle.acorn_model.proofs.StepCases.{same}
 use Rattle.tape_model.specs.Ticket.{ordered, valuesRule, ticketRule, packTicket, unpackTicket, packTicketInto, headRule, packHead, unpackHead, packHeadInto}
-use Rattle.tape_model.specs.Tape.{ticketsLength, unpackTickets, totalsOf, plainTotals, tapeLength, openRefusal}
+use Rattle.tape_model.specs.Tape.{isTicketsLength, unpackTickets, totalsOf, plainTotals, isTapeLength, openTapeRefusal}
 use Rattle.tape_model.specs.Writer.{phaseAllows, keyRight, headRight, ticketRight, tapeFull, outputShort, refusal}
 use Rattle.tape_model.specs.Reader.{handedOut, readNext}
-use Rattle.tape_model.specs.RefusalCases.{writerWith, RefusalCase, writes, opens, sizes, Gets, AllGet, refusalCases, ReaderCases, PackingCases}
+use Rattle.tape_model.specs.RefusalCases.{writerWith, RefusalCase, writes, opens, sizes, Gets, AllGet, tapeRefusalCases, ReaderCases, PackingCases}
 
 abbrev gets : RefusalCase → Bool
 gets (writes phase tickets call number) = eqb (refusal (writerWith phase tickets) call) number
-gets (opens key tape out number) = eqb (openRefusal key tape out) number
-gets (sizes bytes tape tickets) = Bool·beq (tapeLength bytes) tape && Bool·beq (ticketsLength bytes) tickets
+gets (opens key tape out number) = eqb (openTapeRefusal key tape out) number
+gets (sizes bytes tape tickets) = Bool·beq (isTapeLength bytes) tape && Bool·beq (isTicketsLength bytes) tickets
 
 abbrev allGet : List RefusalCase → Bool
 allGet [] = true
@@ -26,18 +25,18 @@ allGet (c ∷ cs) = gets c && allGet cs
 shown : (c : RefusalCase) → gets c ≡ true → Gets c
 shown (writes phase tickets call number) h = eqb-true _ _ h
 shown (opens key tape out number) h = eqb-true _ _ h
-shown (sizes bytes tape tickets) h = let p = both (Bool·beq (tapeLength bytes) tape) _ h in (same _ _ (p .0), same _ _ (p .1))
+shown (sizes bytes tape tickets) h = let p = both (Bool·beq (isTapeLength bytes) tape) _ h in (same _ _ (p .0), same _ _ (p .1))
 
 shown-all : (cs : List RefusalCase) → allGet cs ≡ true → AllGet cs
 shown-all [] h = tt
 shown-all (c ∷ cs) h = let p = both (gets c) (allGet cs) h in (shown c (p .0), shown-all cs (p .1))
 
-pub refusal-cases : AllGet refusalCases
-unfolding refusal phaseAllows keyRight headRight ticketRight tapeFull outputShort headRule ticketRule valuesRule ordered openRefusal tapeLength ticketsLength unpackHead packHead
-refusal-cases = shown-all refusalCases refl
+pub refusal-cases : AllGet tapeRefusalCases
+unfolding refusal phaseAllows keyRight headRight ticketRight tapeFull outputShort headRule ticketRule valuesRule ordered openTapeRefusal isTapeLength isTicketsLength unpackHead packHead
+refusal-cases = shown-all tapeRefusalCases refl
 
 pub reader-cases : ReaderCases
-unfolding readNext handedOut plainTotals totalsOf unpackTickets ticketsLength unpackTicket packTicket valuesRule ordered
+unfolding readNext handedOut plainTotals totalsOf unpackTickets isTicketsLength unpackTicket packTicket valuesRule ordered
 reader-cases = record { too-short = refl; not-whole = refl; bad = refl; bad-first = refl; bad-second = refl; no-totals = (refl, refl) }
 
 pub packing-cases : PackingCases

@@ -8,13 +8,13 @@ use lib.Dec.{leb, ltb, eqb}
 use lib.ListN.{length, length-append}
 use lib.Seq.{take-at, drop-at}
 use borrow.Author.Tests.{leb-true, le-leb, le-ltb, eq-eqb, ne-eqb}
-use Rattle.acorn_model.specs.Bits.{AreBytes, _if_else_}
-use Rattle.acorn_model.specs.Stretches.{tagLength}
+use Rattle.calls.specs.Calls.{AreBytes}
+use Rattle.calls.specs.Calls.{_if_else_, refused, accepted, unlessRefused, sameBytes, refusedWith, resultOf}
 use Rattle.acorn_model.specs.Paper.{ciphertext, tag, newTag}
-use Rattle.acorn_model.specs.Calls.{refused, accepted, unlessRefused, sameBytes, refusedWith, handedOn}
-use Rattle.acorn_model.specs.Machine.{fresh, phaseAllows, sizesRight, overLimit, outputShort, refusal, keyLength}
+use Rattle.calls.specs.Lists.{handedOn}
+use Rattle.acorn_model.specs.Machine.{tagLength, fresh, phaseAllows, sizesRight, overLimit, outputShort, refusal, keyLength}
 use Rattle.acorn_model.specs.Machine.{runThrough, enter, cleared, countData, begun, dataTaken, textTaken, answered, wrote, work, call}
-use Rattle.acorn_model.specs.Message.{resultOf, cipherPart, tagPart, sealed, sealRefusal, sealMessage, tagMatches, opened, openMessage}
+use Rattle.acorn_model.specs.Message.{cipherPart, tagPart, sealed, sealRefusal, sealMessage, tagMatches, opened, openMessage}
 use Rattle.acorn_model.specs.Laws.{WithinLimits}
 use Rattle.acorn_model.proofs.Outputs.{tag-length, sealed-length}
 use Rattle.acorn_model.proofs.Messages.{open-passed}
@@ -22,7 +22,7 @@ use Rattle.acorn_model.proofs.Proved.{opening-exact}
 use Rattle.tape_model.specs.declared.Ticket.{Ticket}
 use Rattle.tape_model.specs.declared.Head.{Head}
 use Rattle.tape_model.specs.Ticket.{ticketLength, ordered, valuesRule, ticketRule, unpackTicket, headLength, headRule, packHead, unpackHead}
-use Rattle.tape_model.specs.Tape.{ticketLimit, nonceOf, packTickets, tapeOf, ticketsLength, unpackTickets, isRefused, emptyTapeLength, tapeLength, headBytes, sealedBytes, ticketCount, plainBytes, openRefusal, openTape}
+use Rattle.tape_model.specs.Tape.{ticketLimit, nonceOf, packTickets, tapeOf, isTicketsLength, unpackTickets, isRefused, emptyTapeLength, isTapeLength, headBytes, sealedBytes, ticketCount, plainBytes, openTapeRefusal, openTape}
 use Rattle.tape_model.specs.Writer as plain
 use Rattle.tape_model.specs.Reader.{readerOver, readNext, handedOut}
 use Rattle.tape_model.specs.RefusalExamples.{AllGive, rows, bit7Turned, lastBitTurned, RefusalExamples}
@@ -35,7 +35,7 @@ table : AllGive rows
 unfolding unlessRefused refusedWith handedOn fresh phaseAllows sizesRight overLimit outputShort refusal call work wrote answered
     runThrough enter cleared countData begun dataTaken textTaken resultOf sealRefusal sealMessage
     plain.writerCall plain.refusal plain.phaseAllows plain.keyRight plain.headRight plain.ticketRight plain.tapeFull plain.outputShort
-    ordered valuesRule ticketRule unpackTicket headRule unpackHead ticketsLength tapeLength openTape openRefusal readerOver readNext handedOut
+    ordered valuesRule ticketRule unpackTicket headRule unpackHead isTicketsLength isTapeLength openTape openTapeRefusal readerOver readNext handedOut
 table = (refl, (refl, (refl, (refl, (refl, (refl, (refl, (refl, tt))))))))
 
 -- ## A last bit turned
@@ -128,22 +128,22 @@ module _ (key : List ℕ) (head : Head) (k : length key ≡ keyLength) (h : head
     whole : length behind ≡ emptyTapeLength + ticketLength * n
     whole = simp length-append (omega (arith, head-length head))
 
-    sizes : (eqb (length key) keyLength && tapeLength (length behind)) ≡ true
-    unfolding tapeLength
+    sizes : (eqb (length key) keyLength && isTapeLength (length behind)) ≡ true
+    unfolding isTapeLength
     sizes =
         ap₂ _&&_ (eq-eqb (length key) keyLength k)
         (ap₂ _&&_ (le-leb emptyTapeLength (length behind) (omega (arith, whole)))
-        (ap ticketsLength {x = length behind - emptyTapeLength} {y = ticketLength * n} (omega (arith, whole)) ∙ length-allowed n few))
+        (ap isTicketsLength {x = length behind - emptyTapeLength} {y = ticketLength * n} (omega (arith, whole)) ∙ length-allowed n few))
 
     count : ticketCount behind ≡ n
     count = omega (arith, whole)
 
-    left : openRefusal key behind out ≡ later
-    unfolding openRefusal plainBytes
+    left : openTapeRefusal key behind out ≡ later
+    unfolding openTapeRefusal plainBytes
     left =
         let first : headBytes behind ≡ H = take-at H S headLength (head-length head) in
         let rest : sealedBytes behind ≡ S = drop-at H S headLength (head-length head) in
-        past-6 (eqb (length key) keyLength && tapeLength (length behind)) (isRefused (unpackHead (headBytes behind))) (ltb (length out) (ticketLength * ticketCount behind)) _
+        past-6 (eqb (length key) keyLength && isTapeLength (length behind)) (isRefused (unpackHead (headBytes behind))) (ltb (length out) (ticketLength * ticketCount behind)) _
         sizes (ap isRefused (ap unpackHead first ∙ head-inverse .unpack-pack head h)) (le-ltb (length out) (ticketLength * ticketCount behind) (omega (arith, count)))
         ∙ (λ i. 7 if not (tagMatches key (nonceOf (first i)) (first i) (rest i)) else 8 if isRefused (unpackTickets (count i) (opened key (nonceOf (first i)) (first i) (rest i))) else accepted)
 

@@ -2,8 +2,8 @@
 use mathlib.Core.Path.{_≡_, refl}
 use mathlib.Core.Bool.{true, false}
 use borrow.Author.Tests.{not-false}
-use Rattle.acorn_model.specs.Calls.{unlessRefused}
-use Rattle.acorn_model.proofs.Refusals.{link}
+use Rattle.calls.specs.Calls.{unlessRefused}
+use Rattle.calls.proofs.Refusals.{link}
 use Rattle.tape_model.specs.Writer.{PlainWriter, WriterCall, phaseAllows, keyRight, headRight, ticketRight, tapeFull, outputShort, refusal, work, writerCall}
 
 pub record WriterPassed (w : PlainWriter) (c : WriterCall) : Type 0 where

@@ -1,13 +1,13 @@
 -- A call of the plain writer that is sent back changes nothing.
-use Rattle.acorn_model.specs.Calls.{unlessRefused, refusedWith}
+use Rattle.calls.specs.Calls.{unlessRefused, refusedWith}
 use Rattle.tape_model.specs.Writer.{PlainWriter, WriterCall, start, add, finish, outputOf, writerCall}
-use Rattle.tape_model.specs.Laws.{SentBack, SentBackLaws}
+use Rattle.tape_model.specs.Laws.{WriterSentBack, WriterSentBackLaws}
 
-sent-back : (w : PlainWriter) (c : WriterCall) → SentBack w c (outputOf c)
+sent-back : (w : PlainWriter) (c : WriterCall) → WriterSentBack w c (outputOf c)
 unfolding writerCall unlessRefused refusedWith
 sent-back w c n e = rw e
 
-pub sent-back-laws : (w : PlainWriter) → SentBackLaws w
+pub sent-back-laws : (w : PlainWriter) → WriterSentBackLaws w
 unfolding outputOf
 sent-back-laws w =
     record {

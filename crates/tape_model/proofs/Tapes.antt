@@ -8,18 +8,18 @@ use lib.Dec.{ltb, eqb}
 use lib.ListN.{length, take, drop, replicate, length-append, length-replicate}
 use lib.Seq.{take-at, drop-at, drop-drop}
 use borrow.Author.Tests.{le-leb, lt-leb, le-ltb, eq-eqb}
-use Rattle.acorn_model.specs.Bits.{_if_else_, AreBytes}
-use Rattle.acorn_model.specs.Calls.{refused, Reply, done, accepted, unlessRefused, writtenOver}
+use Rattle.calls.specs.Calls.{AreBytes}
+use Rattle.calls.specs.Calls.{_if_else_, refused, Reply, done, accepted, unlessRefused, writtenOver, resultOf}
 use Rattle.acorn_model.specs.Machine.{keyLength, nonceLength}
-use Rattle.acorn_model.specs.Message.{resultOf, sealed, tagMatches, opened}
-use Rattle.acorn_model.proofs.Bytes.{append-are-bytes}
+use Rattle.acorn_model.specs.Message.{sealed, tagMatches, opened}
+use Rattle.calls.proofs.AreBytes.{append-are-bytes}
 use Rattle.acorn_model.proofs.Outputs.{sealed-length, sealed-are-bytes}
 use Rattle.acorn_model.proofs.Proved.{opening-exact}
 use Rattle.tape_model.specs.declared.Ticket.{Ticket}
 use Rattle.tape_model.specs.declared.Head.{Head}
 use Rattle.tape_model.specs.Format.{widths}
 use Rattle.tape_model.specs.Ticket.{form1, ticketLength, ordered, valuesRule, ticketRule, packTicket, unpackTicket, headLength, headRule, packHead, unpackHead}
-use Rattle.tape_model.specs.Tape.{ticketLimit, nonceOf, packTickets, tapeOf, ticketsLength, ticketThen, unpackTickets, isRefused, ticketsIn, totalNet, totalsOf, plainTotals, emptyTapeLength, tapeLength, headBytes, sealedBytes, ticketCount, plainBytes, openRefusal, openTape}
+use Rattle.tape_model.specs.Tape.{ticketLimit, nonceOf, packTickets, tapeOf, isTicketsLength, ticketThen, unpackTickets, isRefused, ticketsIn, totalNet, totalsOf, plainTotals, emptyTapeLength, isTapeLength, headBytes, sealedBytes, ticketCount, plainBytes, openTapeRefusal, openTape}
 use Rattle.tape_model.specs.Reader.{ticket, atEnd, Reader, readerOver, readNext, stays, handedOut}
 use Rattle.tape_model.specs.Listing.{headLine, ticketLines, totalLine, listed, listingUnless, listing, printed}
 use Rattle.tape_model.specs.Laws.{Valid, readings, readerAfter, asReadings, TapeLaws, TapesComeBack, tapeWithText, BadTickets}
@@ -67,15 +67,15 @@ tickets-unpack (t ∷ ts) v =
     ap₂ (λ (a b : List ℕ). ticketThen (unpackTicket a) (unpackTickets (length ts) b)) (first-ticket t ts) (later-tickets t ts)
     ∙ ap₂ ticketThen (ticket-inverse .unpack-pack t (v .0)) (tickets-unpack ts (v .1))
 
-pub length-allowed : (n : ℕ) → n ≤ ticketLimit → ticketsLength (13 * n) ≡ true
-unfolding ticketsLength
+pub length-allowed : (n : ℕ) → n ≤ ticketLimit → isTicketsLength (13 * n) ≡ true
+unfolding isTicketsLength
 length-allowed n h = ap₂ _&&_ (eq-eqb (13 * n % 13) 0 (omega arith)) (le-leb (13 * n / 13) 5000 (omega arith))
 
 -- ## Reading
 
 -- a reader that has the packed tickets ts before it, behind p others
 record Before (p : ℕ) (ts : List Ticket) (s : List ℕ) : Type 0 where
-  allowed : ticketsLength (length s) ≡ true
+  allowed : isTicketsLength (length s) ≡ true
   count : length s ≡ 13 * (p + length ts)
   rest : drop (13 * p) s ≡ packTickets ts
 
@@ -140,11 +140,11 @@ module _ (key : List ℕ) (head : Head) (text : List ℕ) where
   text-head : headRule head ≡ true → unpackHead (headBytes withText) ≡ done head
   text-head h = ap unpackHead head-part ∙ head-inverse .unpack-pack head h
 
-  text-lengths : length key ≡ keyLength → ticketsLength (length text) ≡ true → (eqb (length key) keyLength && tapeLength (length withText)) ≡ true
-  unfolding tapeLength
+  text-lengths : length key ≡ keyLength → isTicketsLength (length text) ≡ true → (eqb (length key) keyLength && isTapeLength (length withText)) ≡ true
+  unfolding isTapeLength
   text-lengths k n =
       ap₂ _&&_ (eq-eqb (length key) keyLength k)
-      (ap₂ _&&_ (le-leb emptyTapeLength (length withText) (omega (arith, text-size))) (ap ticketsLength {x = length withText - emptyTapeLength} {y = length text} (omega (arith, text-size)) ∙ n))
+      (ap₂ _&&_ (le-leb emptyTapeLength (length withText) (omega (arith, text-size))) (ap isTicketsLength {x = length withText - emptyTapeLength} {y = length text} (omega (arith, text-size)) ∙ n))
 
   module _ (bytes : AreBytes text) where
     both : (tagMatches key nonce (packHead head) (sealed key nonce (packHead head) text) ≡ true) × (opened key nonce (packHead head) (sealed key nonce (packHead head) text) ≡ text)
@@ -184,18 +184,18 @@ module _ (key : List ℕ) (head : Head) (ts : List Ticket) (k : length key ≡ k
   unfolding tapeOf
   opens-head = text-head key head (packTickets ts) h
 
-  lengths : (eqb (length key) keyLength && tapeLength (length tape)) ≡ true
+  lengths : (eqb (length key) keyLength && isTapeLength (length tape)) ≡ true
   unfolding tapeOf
-  lengths = text-lengths key head (packTickets ts) k (ap ticketsLength (tickets-length ts) ∙ length-allowed (length ts) n)
+  lengths = text-lengths key head (packTickets ts) k (ap isTicketsLength (tickets-length ts) ∙ length-allowed (length ts) n)
 
   matches : tagMatches key (nonceOf (headBytes tape)) (headBytes tape) (sealedBytes tape) ≡ true
   unfolding tapeOf
   matches = text-matches key head (packTickets ts) (tickets-bytes ts)
 
-  pub no-refusal : (out : List ℕ) → 13 * length ts ≤ length out → openRefusal key tape out ≡ accepted
-  unfolding openRefusal
+  pub no-refusal : (out : List ℕ) → 13 * length ts ≤ length out → openTapeRefusal key tape out ≡ accepted
+  unfolding openTapeRefusal
   no-refusal out room =
-      none-applies (not (eqb (length key) keyLength && tapeLength (length tape))) (isRefused (unpackHead (headBytes tape))) (ltb (length out) (ticketLength * ticketCount tape))
+      none-applies (not (eqb (length key) keyLength && isTapeLength (length tape))) (isRefused (unpackHead (headBytes tape))) (ltb (length out) (ticketLength * ticketCount tape))
       (not (tagMatches key (nonceOf (headBytes tape)) (headBytes tape) (sealedBytes tape))) (isRefused (unpackTickets (ticketCount tape) (plainBytes key tape)))
       (ap not lengths) (ap isRefused opens-head) (le-ltb (length out) (ticketLength * ticketCount tape) (omega (arith, count)))
       (ap not matches) (ap isRefused unpacks)
@@ -210,7 +210,7 @@ module _ (key : List ℕ) (head : Head) (ts : List Ticket) (k : length key ≡ k
   start : Before 0 ts (packTickets ts)
   start =
       record {
-        allowed = ap ticketsLength (tickets-length ts) ∙ length-allowed (length ts) n;
+        allowed = ap isTicketsLength (tickets-length ts) ∙ length-allowed (length ts) n;
         count = omega (arith, tickets-length ts);
         rest = refl;
       }
@@ -218,7 +218,7 @@ module _ (key : List ℕ) (head : Head) (ts : List Ticket) (k : length key ≡ k
   totals : plainTotals (packTickets ts) ≡ done (record { tickets = length ts; net = totalNet ts })
   unfolding plainTotals totalsOf
   totals =
-      let sized : ticketsLength (length (packTickets ts)) ≡ true = ap ticketsLength (tickets-length ts) ∙ length-allowed (length ts) n in
+      let sized : isTicketsLength (length (packTickets ts)) ≡ true = ap isTicketsLength (tickets-length ts) ∙ length-allowed (length ts) n in
       rw sized (ap totalsOf (ap (λ (m : ℕ). unpackTickets m (packTickets ts)) {x = length (packTickets ts) / ticketLength} {y = length ts} (omega (arith, tickets-length ts)) ∙ tickets-unpack ts v))
 
   lists : printed (key ++ tape) ≡ headLine head ++ ticketLines 1 ts ++ totalLine ts
@@ -241,19 +241,19 @@ eight-applies : (a b c d e : Bool) → a ≡ false → b ≡ false → c ≡ fal
 eight-applies a b c d e p q r s t = rw (p, q, r, s, t)
 
 eight : (key : List ℕ) (head : Head) (text out : List ℕ) → length key ≡ keyLength → headRule head ≡ true → AreBytes text
-    → ticketsLength (length text) ≡ true → length text ≤ length out → isRefused (unpackTickets (length text / ticketLength) text) ≡ true
+    → isTicketsLength (length text) ≡ true → length text ≤ length out → isRefused (unpackTickets (length text / ticketLength) text) ≡ true
     → openTape key (tapeWithText key head text) out ≡ record { answer = refused 8; out = out }
-unfolding openTape resultOf unlessRefused openRefusal
+unfolding openTape resultOf unlessRefused openTapeRefusal
 eight key head text out k h bytes sized room bad =
     let tape : List ℕ = tapeWithText key head text in
     let count : ticketCount tape ≡ length text / ticketLength = omega (arith, text-size key head text) in
-    rw (eight-applies (not (eqb (length key) keyLength && tapeLength (length tape))) (isRefused (unpackHead (headBytes tape))) (ltb (length out) (ticketLength * ticketCount tape))
+    rw (eight-applies (not (eqb (length key) keyLength && isTapeLength (length tape))) (isRefused (unpackHead (headBytes tape))) (ltb (length out) (ticketLength * ticketCount tape))
     (not (tagMatches key (nonceOf (headBytes tape)) (headBytes tape) (sealedBytes tape))) (isRefused (unpackTickets (ticketCount tape) (plainBytes key tape)))
     (ap not (text-lengths key head text k sized)) (ap isRefused (text-head key head text h)) (le-ltb (length out) (ticketLength * ticketCount tape) (omega (arith, count)))
     (ap not (text-matches key head text bytes)) (ap isRefused (ap₂ unpackTickets count (text-plain key head text bytes)) ∙ bad))
 
 last-byte-C1 : (key out : List ℕ) → length key ≡ keyLength → 13 ≤ length out → openTape key (tapeWithText key goodHead lastByteC1) out ≡ record { answer = refused 8; out = out }
-unfolding headRule ticketsLength unpackTickets unpackTicket valuesRule ordered
+unfolding headRule isTicketsLength unpackTickets unpackTicket valuesRule ordered
 last-byte-C1 key out k room =
     let bytes : AreBytes lastByteC1 = pack-bytes (widths form1) ticketLength (1 ∷ 5 ∷ 2 ∷ 3 ∷ 4 ∷ 3600 ∷ 4200 ∷ 250000 ∷ 110000 ∷ 1 ∷ []) in
     eight key goodHead lastByteC1 out k refl bytes refl room refl

@@ -6,7 +6,7 @@ use Prim.Native.Nat.{ℕ, zero, suc, _+_, _*_, _<_}
 use native.Mathlib.Omega.{arith}
 use lib.ListN.{length, getD, take, drop}
 use lib.Seq.{drop-drop}
-use Rattle.acorn_model.specs.Calls.{Reply, refused, done}
+use Rattle.calls.specs.Calls.{Reply, refused, done}
 use Rattle.tape_model.specs.declared.Ticket.{Ticket}
 use Rattle.tape_model.specs.Ticket.{unpackTicket}
 use Rattle.tape_model.specs.Tape.{ticketThen, unpackTickets, isRefused, ticketsIn}

@@ -4,8 +4,8 @@ use mathlib.Core.Bool.{Bool, true}
 use mathlib.Core.List.{List, [], _∷_, _++_}
 use Prim.Native.Nat.{ℕ, zero, suc, _+_, _-_, _*_, _/_, _^_, _≤_, _<_}
 use lib.ListN.{length, getD, replicate}
-use Rattle.acorn_model.specs.Bits.{AreBytes}
-use Rattle.acorn_model.specs.Calls.{Reply, refused, done, writtenOver}
+use Rattle.calls.specs.Calls.{AreBytes}
+use Rattle.calls.specs.Calls.{Reply, refused, done, writtenOver}
 use Rattle.acorn_model.specs.Machine.{keyLength}
 use Rattle.acorn_model.specs.Message.{sealed}
 use Rattle.acorn_model.specs.RefusalCases.{string}
@@ -13,7 +13,7 @@ use Rattle.tape_model.specs.declared.Ticket.{Ticket}
 use Rattle.tape_model.specs.declared.Head.{Head}
 use Rattle.tape_model.specs.Format.{totalWidth, widths, join, cut, Fit, byteWidths, pack, bitString}
 use Rattle.tape_model.specs.Ticket.{form1, ticketLength, ticketValues, ticketRule, packTicket, unpackTicket, headFormat, headValues, headRule, packHead, unpackHead}
-use Rattle.tape_model.specs.Tape.{ticketLimit, nonceOf, packTickets, tapeOf, ticketsLength, unpackTickets, isRefused, totalNet, plainTotals, openRefusal, openTape}
+use Rattle.tape_model.specs.Tape.{ticketLimit, nonceOf, packTickets, tapeOf, isTicketsLength, unpackTickets, isRefused, totalNet, plainTotals, openTapeRefusal, openTape}
 use Rattle.tape_model.specs.Writer.{PlainWriter, WriterCall, start, add, finish, refusal, writerCall}
 use Rattle.tape_model.specs.Reader.{Reading, ticket, atEnd, Reader, readerOver, readNext}
 use Rattle.tape_model.specs.Listing.{decimal, headLine, ticketLines, totalLine, refusedLine, listed, listing, printed, exampleText, refusedText}
@@ -98,7 +98,7 @@ tapeWithText key head text = packHead head ++ sealed key (nonceOf (packHead head
 pub record BadTickets : Type 0 where
   -- the tag matches, and a ticket does not unpack: 8, and nothing is written
   pub eight : (key : List ℕ) (head : Head) (text out : List ℕ) → length key ≡ keyLength → headRule head ≡ true → AreBytes text
-      → ticketsLength (length text) ≡ true → length text ≤ length out → isRefused (unpackTickets (length text / ticketLength) text) ≡ true
+      → isTicketsLength (length text) ≡ true → length text ≤ length out → isRefused (unpackTickets (length text / ticketLength) text) ≡ true
       → openTape key (tapeWithText key head text) out ≡ record { answer = refused 8; out = out }
   -- document 01's example
   pub last-byte-C1 : (key out : List ℕ) → length key ≡ keyLength → 13 ≤ length out
@@ -107,13 +107,13 @@ pub record BadTickets : Type 0 where
 -- ## The plain writer
 
 -- where a number applies, the call answers it, and the writer and the call's output stay as they are
-abbrev pub SentBack : PlainWriter → WriterCall → List ℕ → Type 0
-SentBack w c out = (n : ℕ) → refusal w c ≡ suc n → writerCall w c ≡ record { next = w; answer = refused (suc n); out = out }
+abbrev pub WriterSentBack : PlainWriter → WriterCall → List ℕ → Type 0
+WriterSentBack w c out = (n : ℕ) → refusal w c ≡ suc n → writerCall w c ≡ record { next = w; answer = refused (suc n); out = out }
 
-pub record SentBackLaws (w : PlainWriter) : Type 0 where
-  pub of-start : (key : List ℕ) (head : Head) (out : List ℕ) → SentBack w (start key head out) out
-  pub of-add : (t : Ticket) (out : List ℕ) → SentBack w (add t out) out
-  pub of-finish : (out : List ℕ) → SentBack w (finish out) out
+pub record WriterSentBackLaws (w : PlainWriter) : Type 0 where
+  pub of-start : (key : List ℕ) (head : Head) (out : List ℕ) → WriterSentBack w (start key head out) out
+  pub of-add : (t : Ticket) (out : List ℕ) → WriterSentBack w (add t out) out
+  pub of-finish : (out : List ℕ) → WriterSentBack w (finish out) out
 
 -- ## The listing
 
@@ -131,7 +131,7 @@ pub record ListingLaws : Type 0 where
   -- positions go up by one: behind other tickets the lines go on from their number
   pub positions : (position : ℕ) (ts us : List Ticket) → ticketLines position (ts ++ us) ≡ ticketLines position ts ++ ticketLines (position + length ts) us
   -- a refusal is printed alone; a key cut short is 2
-  pub refusal : (key tape : List ℕ) (n : ℕ) → openRefusal key tape (replicate (length tape) 0) ≡ suc n → listing key tape ≡ refusedLine (suc n)
+  pub refusal : (key tape : List ℕ) (n : ℕ) → openTapeRefusal key tape (replicate (length tape) 0) ≡ suc n → listing key tape ≡ refusedLine (suc n)
   pub short-key : (input : List ℕ) → length input < keyLength → printed input ≡ refusedLine 2
   -- document 01's example
   pub example : listed (done (record { device = 7; shift = 2; sheet = 1 })) (ticketWith 3600 4200 250000 110000 ∷ []) ≡ exampleText

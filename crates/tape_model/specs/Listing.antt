@@ -3,13 +3,12 @@ use mathlib.Core.List.{List, [], _∷_, _++_}
 use Prim.Native.Nat.{ℕ, zero, suc, _+_, _/_, _%_}
 use lib.Dec.{ltb}
 use lib.ListN.{length, take, drop, replicate}
-use Rattle.acorn_model.specs.Bits.{_if_else_}
-use Rattle.acorn_model.specs.Calls.{Reply, refused, done}
+use Rattle.calls.specs.Calls.{_if_else_, Reply, refused, done}
 use Rattle.acorn_model.specs.Machine.{keyLength}
 use Rattle.tape_model.specs.declared.Ticket.{Ticket}
 use Rattle.tape_model.specs.declared.Head.{Head}
 use Rattle.tape_model.specs.Ticket.{net, unpackHead}
-use Rattle.tape_model.specs.Tape.{totalNet, unpackTickets, ticketsIn, headBytes, ticketCount, plainBytes, openRefusal}
+use Rattle.tape_model.specs.Tape.{totalNet, unpackTickets, ticketsIn, headBytes, ticketCount, plainBytes, openTapeRefusal}
 
 -- ## Words and numbers
 
@@ -49,12 +48,12 @@ unfoldable pub headLine : Head → List ℕ
 headLine h = wordTape ++ numbers (h .device ∷ h .shift ∷ h .sheet ∷ []) ++ lineEnd
 
 -- truck, shovel, tip point, grade, loaded, tipped, net
-abbrev pub ticketNumbers : Ticket → List ℕ
-ticketNumbers t = t .truck ∷ t .shovel ∷ t .tip ∷ t .grade ∷ t .loaded ∷ t .tipped ∷ net t ∷ []
+abbrev pub listedNumbers : Ticket → List ℕ
+listedNumbers t = t .truck ∷ t .shovel ∷ t .tip ∷ t .grade ∷ t .loaded ∷ t .tipped ∷ net t ∷ []
 
 -- the position, counted from 1, and the ticket's numbers
 unfoldable pub ticketLine : ℕ → Ticket → List ℕ
-ticketLine position t = decimal position ++ numbers (ticketNumbers t) ++ lineEnd
+ticketLine position t = decimal position ++ numbers (listedNumbers t) ++ lineEnd
 
 unfoldable pub ticketLines : ℕ → List Ticket → List ℕ
 ticketLines position [] = []
@@ -82,7 +81,7 @@ listingUnless zero key tape = listed (unpackHead (headBytes tape)) (ticketsIn (u
 listingUnless (suc n) key tape = refusedLine (suc n)
 
 unfoldable pub listing : List ℕ → List ℕ → List ℕ
-listing key tape = listingUnless (openRefusal key tape (replicate (length tape) 0)) key tape
+listing key tape = listingUnless (openTapeRefusal key tape (replicate (length tape) 0)) key tape
 
 -- what is printed for the bytes on standard input: the key's 16, or fewer where it is cut short, and then a tape
 unfoldable pub printed : List ℕ → List ℕ

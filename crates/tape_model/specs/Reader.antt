@@ -4,13 +4,12 @@ use mathlib.Core.List.{List}
 use Prim.Native.Nat.{ℕ, _+_, _*_, _/_}
 use lib.Dec.{leb}
 use lib.ListN.{length, take, drop}
-use Rattle.acorn_model.specs.Bits.{_if_else_}
-use Rattle.acorn_model.specs.Calls.{Reply, refused, done}
+use Rattle.calls.specs.Calls.{_if_else_, Reply, refused, done}
 use Rattle.tape_model.specs.declared.Ticket.{Ticket}
 use Rattle.tape_model.specs.declared.NextTicket.{NextTicket}
 use Rattle.tape_model.specs.declared.NextTicket.the-variants.{Refused, Done, End}
 use Rattle.tape_model.specs.Ticket.{ticketLength, unpackTicket}
-use Rattle.tape_model.specs.Tape.{ticketsLength}
+use Rattle.tape_model.specs.Tape.{isTicketsLength}
 
 -- what a reader hands out
 pub data Reading : Type 0 where
@@ -41,7 +40,7 @@ handedOut (done t) r = record { next = record { string = r .string; position = r
 -- the next ticket: 2 where the bytes are not 13n, with n at most 5,000; 8 where a ticket does not unpack
 unfoldable pub readNext : Reader → ReadOutcome
 readNext r =
-    stays r (refused 2) if not (ticketsLength (length (r .string))) else
+    stays r (refused 2) if not (isTicketsLength (length (r .string))) else
     stays r (done atEnd) if leb (length (r .string) / ticketLength) (r .position) else
     handedOut (unpackTicket (take ticketLength (drop (ticketLength * r .position) (r .string)))) r
 

@@ -5,7 +5,7 @@ use mathlib.Core.Bool.{Bool, true, false}
 use mathlib.Core.List.{List, [], _∷_, _++_}
 use Prim.Native.Nat.{ℕ}
 use Rattle.acorn_model.specs.declared.Kind.the-variants.{Sealing}
-use Rattle.acorn_model.specs.Calls.{refused, done, accepted}
+use Rattle.calls.specs.Calls.{refused, done, accepted}
 use Rattle.acorn_model.specs.Machine.{fresh}
 use Rattle.acorn_model.specs.RefusalCases.{string}
 use Rattle.tape_model.specs.declared.Ticket.{Ticket}
@@ -13,7 +13,7 @@ use Rattle.tape_model.specs.declared.Head.{Head}
 use Rattle.tape_model.specs.declared.WriterPhase.{WriterPhase}
 use Rattle.tape_model.specs.declared.WriterPhase.the-variants.{Fresh, Open, Closed}
 use Rattle.tape_model.specs.Ticket.{packTicket, unpackTicket, packTicketInto, packHead, unpackHead, packHeadInto}
-use Rattle.tape_model.specs.Tape.{ticketsLength, plainTotals, tapeLength, openRefusal}
+use Rattle.tape_model.specs.Tape.{isTicketsLength, plainTotals, isTapeLength, openTapeRefusal}
 use Rattle.tape_model.specs.Writer.{PlainWriter, WriterCall, start, add, finish, refusal}
 use Rattle.tape_model.specs.Reader.{Reader, stays, readNext}
 use Rattle.tape_model.specs.Cases.{ticketWith}
@@ -43,15 +43,15 @@ pub data RefusalCase : Type 0 where
 
 abbrev pub Gets : RefusalCase → Type 0
 Gets (writes phase tickets call number) = refusal (writerWith phase tickets) call ≡ number
-Gets (opens key tape out number) = openRefusal key tape out ≡ number
-Gets (sizes bytes tape tickets) = (tapeLength bytes ≡ tape) × (ticketsLength bytes ≡ tickets)
+Gets (opens key tape out number) = openTapeRefusal key tape out ≡ number
+Gets (sizes bytes tape tickets) = (isTapeLength bytes ≡ tape) × (isTicketsLength bytes ≡ tickets)
 
 abbrev pub AllGet : List RefusalCase → Type 0
 AllGet [] = Unit {0}
 AllGet (c ∷ cs) = Gets c × AllGet cs
 
-abbrev pub refusalCases : List RefusalCase
-refusalCases =
+abbrev pub tapeRefusalCases : List RefusalCase
+tapeRefusalCases =
     -- 1
     writes Open 0 (start (string 16) goodHead (string 9)) 1
     ∷ writes Closed 0 (start (string 16) goodHead (string 9)) 1

@@ -7,8 +7,9 @@ use lib.Dec.{leb}
 use lib.ListN.{length}
 use Rattle.acorn_model.specs.declared.Kind.{Kind}
 use Rattle.acorn_model.specs.declared.Kind.the-variants.{Sealing}
-use Rattle.acorn_model.specs.Bits.{AreBytes, _if_else_}
-use Rattle.acorn_model.specs.Calls.{Reply, refused, done, accepted, handedOn}
+use Rattle.calls.specs.Calls.{AreBytes}
+use Rattle.calls.specs.Calls.{_if_else_, Reply, refused, done, accepted}
+use Rattle.calls.specs.Lists.{handedOn}
 use Rattle.acorn_model.specs.Machine.{fresh, Call, begin, dataCall, sealText, sealClose, keyLength, call}
 use Rattle.acorn_model.specs.Message.{sealed, sealMessage, openMessage}
 use Rattle.acorn_model.specs.RefusalCases.{string}

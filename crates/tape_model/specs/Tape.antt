@@ -4,11 +4,9 @@ use mathlib.Core.List.{List, [], _∷_, _++_}
 use Prim.Native.Nat.{ℕ, zero, suc, _+_, _-_, _*_, _/_, _%_}
 use lib.Dec.{leb, ltb, eqb}
 use lib.ListN.{length, take, drop, replicate}
-use Rattle.acorn_model.specs.Bits.{_if_else_}
-use Rattle.acorn_model.specs.Stretches.{tagLength}
-use Rattle.acorn_model.specs.Calls.{Reply, refused, done, accepted}
+use Rattle.calls.specs.Calls.{_if_else_, Reply, refused, done, accepted, Result, resultOf}
 use Rattle.acorn_model.specs.Machine.{keyLength}
-use Rattle.acorn_model.specs.Message.{Result, resultOf, sealed, tagMatches, opened}
+use Rattle.acorn_model.specs.Message.{sealed, tagMatches, opened}
 use Rattle.tape_model.specs.declared.Ticket.{Ticket}
 use Rattle.tape_model.specs.declared.Head.{Head}
 use Rattle.tape_model.specs.declared.OpenedTape.{OpenedTape}
@@ -20,6 +18,10 @@ use Rattle.tape_model.specs.Ticket.{ticketLength, net, packTicket, unpac
 -- the most tickets on a tape
 abbrev pub ticketLimit : ℕ
 ticketLimit = 5000
+
+-- the bytes of a tape's tag
+abbrev pub tapeTagLength : ℕ
+tapeTagLength = 16
 
 -- the nonce that goes with a head's bytes: they are filled up to 16 with zeros
 abbrev pub nonceOf : List ℕ → List ℕ
@@ -37,8 +39,8 @@ tapeOf key head tickets = packHead head ++ sealed key (nonceOf (packHead head)) 
 -- ## Opened bytes
 
 -- whether n bytes are 13 for each of at most 5,000 tickets
-unfoldable pub ticketsLength : ℕ → Bool
-ticketsLength n = eqb (n % ticketLength) 0 && leb (n / ticketLength) ticketLimit
+unfoldable pub isTicketsLength : ℕ → Bool
+isTicketsLength n = eqb (n % ticketLength) 0 && leb (n / ticketLength) ticketLimit
 
 -- a ticket before others; the first refusal is the answer
 abbrev pub ticketThen : Reply Ticket → Reply (List Ticket) → Reply (List Ticket)
@@ -74,17 +76,17 @@ totalsOf (done ts) = done (record { tickets = length ts; net = totalNet ts })
 
 -- the totals of plain bytes: 2 for a wrong length, 8 where a ticket does not unpack
 unfoldable pub plainTotals : List ℕ → Reply Totals
-plainTotals string = refused 2 if not (ticketsLength (length string)) else totalsOf (unpackTickets (length string / ticketLength) string)
+plainTotals string = refused 2 if not (isTicketsLength (length string)) else totalsOf (unpackTickets (length string / ticketLength) string)
 
 -- ## Opening
 
 -- the bytes of a tape of no tickets
 abbrev pub emptyTapeLength : ℕ
-emptyTapeLength = headLength + tagLength
+emptyTapeLength = headLength + tapeTagLength
 
 -- whether n bytes are those of a tape: 25 and 13 for each of at most 5,000 tickets
-unfoldable pub tapeLength : ℕ → Bool
-tapeLength n = leb emptyTapeLength n && ticketsLength (n - emptyTapeLength)
+unfoldable pub isTapeLength : ℕ → Bool
+isTapeLength n = leb emptyTapeLength n && isTicketsLength (n - emptyTapeLength)
 
 abbrev pub headBytes : List ℕ → List ℕ
 headBytes tape = take headLength tape
@@ -99,9 +101,9 @@ module _ (key tape : List ℕ) where
   unfoldable pub plainBytes : List ℕ
   plainBytes = opened key (nonceOf (headBytes tape)) (headBytes tape) (sealedBytes tape)
 
-  unfoldable pub openRefusal : List ℕ → ℕ
-  openRefusal out =
-      2 if not (eqb (length key) keyLength && tapeLength (length tape)) else
+  unfoldable pub openTapeRefusal : List ℕ → ℕ
+  openTapeRefusal out =
+      2 if not (eqb (length key) keyLength && isTapeLength (length tape)) else
       3 if isRefused (unpackHead (headBytes tape)) else
       6 if ltb (length out) (ticketLength * ticketCount tape) else
       7 if not (tagMatches key (nonceOf (headBytes tape)) (headBytes tape) (sealedBytes tape)) else
@@ -110,7 +112,7 @@ module _ (key tape : List ℕ) where
 
   -- the plain bytes are written, and the number of tickets and their total net answered
   unfoldable pub openTape : List ℕ → Result Totals
-  openTape out = resultOf (openRefusal out) (record { tickets = ticketCount tape; net = totalNet (ticketsIn (unpackTickets (ticketCount tape) plainBytes)) }) plainBytes out
+  openTape out = resultOf (openTapeRefusal out) (record { tickets = ticketCount tape; net = totalNet (ticketsIn (unpackTickets (ticketCount tape) plainBytes)) }) plainBytes out
 
 -- document 01's number and values for each case of the answer in code
 unfoldable pub openedReply : OpenedTape → Reply Totals

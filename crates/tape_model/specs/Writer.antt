@@ -5,16 +5,14 @@ use Prim.Native.Nat.{ℕ, _+_}
 use lib.Dec.{leb, ltb, eqb}
 use lib.ListN.{length}
 use Rattle.acorn_model.specs.declared.Kind.the-variants.{Sealing}
-use Rattle.acorn_model.specs.Bits.{_if_else_}
-use Rattle.acorn_model.specs.Stretches.{tagLength}
-use Rattle.acorn_model.specs.Calls.{Reply, refused, done, Work, accepted, unlessRefused, writtenOver, Outcome, refusedWith}
+use Rattle.calls.specs.Calls.{_if_else_, Reply, refused, done, Work, accepted, unlessRefused, writtenOver, Outcome, refusedWith}
 use Rattle.acorn_model.specs.Machine.{Machine, fresh, begin, dataCall, sealText, sealClose, keyLength, call}
 use Rattle.tape_model.specs.declared.Ticket.{Ticket}
 use Rattle.tape_model.specs.declared.Head.{Head}
 use Rattle.tape_model.specs.declared.WriterPhase.{WriterPhase}
 use Rattle.tape_model.specs.declared.WriterPhase.the-variants.{Fresh, Open, Closed}
 use Rattle.tape_model.specs.Ticket.{ticketLength, ticketRule, packTicket, headLength, headRule, packHead}
-use Rattle.tape_model.specs.Tape.{ticketLimit, nonceOf}
+use Rattle.tape_model.specs.Tape.{ticketLimit, tapeTagLength, nonceOf}
 
 pub record PlainWriter : Type 0 where
   pub machine : Machine
@@ -85,7 +83,7 @@ tapeFull tickets (finish out) = false
 unfoldable pub outputShort : WriterCall → Bool
 outputShort (start key head out) = ltb (length out) headLength
 outputShort (add ticket out) = ltb (length out) ticketLength
-outputShort (finish out) = ltb (length out) tagLength
+outputShort (finish out) = ltb (length out) tapeTagLength
 
 -- the smallest number that applies
 unfoldable pub refusal : PlainWriter → WriterCall → ℕ

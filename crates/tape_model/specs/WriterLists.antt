@@ -1,9 +1,9 @@
 -- Document 01 on lists of the writer's calls: what a list amounts to, read off its calls, their answers and their outputs alone.
 use mathlib.Core.List.{List, [], _∷_, _++_}
 use Prim.Native.Nat.{ℕ}
-use Rattle.acorn_model.specs.Calls.{Entry}
+use Rattle.calls.specs.Calls.{Work}
+use Rattle.calls.specs.Lists.{Entry, writtenBy, ifAccepted}
 use Rattle.acorn_model.specs.Machine.{Call, begin, dataCall, sealText, sealClose}
-use Rattle.acorn_model.specs.Lists.{writtenBy, ifAccepted}
 use Rattle.tape_model.specs.declared.Ticket.{Ticket}
 use Rattle.tape_model.specs.declared.Head.{Head}
 use Rattle.tape_model.specs.Ticket.{packTicket, packHead}
@@ -37,7 +37,7 @@ pub record WriterLog : Type 0 where
   pub machineCalls : List Call
   pub written : List ℕ
 
-unfoldable pub writerLog : List (Entry WriterCall) → WriterLog
+unfoldable pub writerLog : List (Entry WriterCall Work) → WriterLog
 writerLog [] = record { starts = []; tickets = []; machineCalls = []; written = [] }
 writerLog (e ∷ es) =
     record {

@@ -1,4 +1,4 @@
-// Tickets and heads by value, the phases of a tape's writer, and the answers of calls on tickets and tapes.
+// Tickets and heads by value, the phases of a tape's writer, the answers of calls on tickets and tapes, and the lengths that tapes are made of.
 #[repr(C)]
 pub struct Ticket {
     pub form: u8,
@@ -49,3 +49,14 @@ pub enum NextTicket {
     Done(Ticket),
     End,
 }
+
+// Bytes of a packed head, of a packed ticket, of a tape's tag, and of a tape without tickets; the most tickets on a tape.
+pub const HEAD_LENGTH: usize = 9;
+
+pub const TICKET_LENGTH: usize = 13;
+
+pub const TAPE_TAG_LENGTH: usize = 16;
+
+pub const EMPTY_TAPE_LENGTH: usize = 25;
+
+pub const TICKET_LIMIT: usize = 5000;

@@ -7,9 +7,9 @@ use native.Mathlib.Omega.{arith}
 use lib.Dec.{eqb}
 use lib.ListN.{length, take, drop}
 use borrow.Author.Tests.{eq-eqb, eqb-true, eqb-false}
-use Rattle.acorn_model.specs.Bits.{_if_else_, AreBytes}
-use Rattle.acorn_model.specs.Calls.{refused, done}
-use Rattle.acorn_model.proofs.Choices.{both}
+use Rattle.calls.specs.Calls.{AreBytes}
+use Rattle.calls.specs.Calls.{_if_else_, refused, done}
+use Rattle.calls.proofs.Choices.{both}
 use Rattle.tape_model.specs.declared.Ticket.{Ticket}
 use Rattle.tape_model.specs.Format.{widths, inRanges, join, cut, byteWidths}
 use Rattle.tape_model.specs.Ticket.{form1, ticketLength, ticketOf, ordered, valuesRule, ticketRule, unpackTicket, headFormat, headLength, headOf, headRule, unpackHead}

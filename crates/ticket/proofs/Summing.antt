@@ -8,13 +8,12 @@ use lib.ListN.{length, take, drop, length-drop}
 use lib.Seq.{drop-drop, length-take-le}
 use lib.Dec.{eqb, leb}
 use borrow.Author.Tests.{eq-eqb, leb-true, not-false}
-use Rattle.acorn_model.specs.Bits.{_if_else_}
-use Rattle.acorn_model.specs.Calls.{Reply, refused, done}
-use Rattle.acorn_model.proofs.Choices.{both}
+use Rattle.calls.specs.Calls.{_if_else_, Reply, refused, done}
+use Rattle.calls.proofs.Choices.{both}
 use Rattle.tape_model.specs.declared.Ticket.{Ticket}
 use Rattle.tape_model.specs.Format.{widths, unpack}
 use Rattle.tape_model.specs.Ticket.{form1, ticketOf, valuesRule, net, unpackTicket}
-use Rattle.tape_model.specs.Tape.{Totals, ticketsLength, ticketThen, unpackTickets, totalNet, totalsOf, plainTotals}
+use Rattle.tape_model.specs.Tape.{Totals, isTicketsLength, ticketThen, unpackTickets, totalNet, totalsOf, plainTotals}
 
 -- 13 bytes are refused for their values alone
 pub refused-by-8 : (s : List ℕ) (n : ℕ) → length s ≡ 13 → refused n ≡ unpackTicket s → n ≡ 8
@@ -84,9 +83,9 @@ module _ (s : List ℕ) (n k sum : ℕ) where
 -- ## The answer
 
 -- r: whether the bytes are of a right size
-module _ (s : List ℕ) (r : Bool) (sized : r ≡ ticketsLength (length s)) (right : not r ≡ false) where
+module _ (s : List ℕ) (r : Bool) (sized : r ≡ isTicketsLength (length s)) (right : not r ≡ false) where
   pub few-tickets : length s / 13 ≤ 5000
-  unfolding ticketsLength
+  unfolding isTicketsLength
   few-tickets = leb-true (length s / 13) 5000 (both (eqb (length s % 13) 0) (leb (length s / 13) 5000) (sym sized ∙ not-false r right) .1)
 
   pub length-allowed : (a : Reply Totals) → a ≡ totalsOf (unpackTickets (length s / 13) s) → a ≡ plainTotals s

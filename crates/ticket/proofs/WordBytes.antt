@@ -6,8 +6,8 @@ use native.Mathlib.Omega.{arith}
 use lib.ListN.{length, getD, take, drop, length-drop}
 use lib.Seq.{length-take-le, getD-drop}
 use lib.Pow.{high, low}
-use Rattle.acorn_model.specs.Bits.{AreBytes}
-use Rattle.acorn_model.proofs.Bytes.{take-are-bytes}
+use Rattle.calls.specs.Calls.{AreBytes}
+use Rattle.calls.proofs.AreBytes.{take-are-bytes}
 use Rattle.tape_model.specs.Format.{totalWidth, join, cut, Fit, byteWidths}
 use Rattle.tape_model.proofs.Widths.{join-lt, cut-join, join-parts}
 use Rattle.tape_model.proofs.Ranges.{bytes-fit}

@@ -7,10 +7,7 @@ use lib.Dec.{ltb}
 use lib.ListN.{length, take, drop}
 use lib.Seq.{take-length}
 use borrow.Author.Tests.{le-ltb}
-use Rattle.acorn_model.specs.Bits.{_if_else_}
-use Rattle.acorn_model.specs.Calls.{done, accepted, unlessRefused, writtenOver}
-use Rattle.acorn_model.specs.Message.{Result, resultOf}
-use Rattle.ticket.specs.Packing.{putInto}
+use Rattle.calls.specs.Calls.{_if_else_, done, accepted, unlessRefused, writtenOver, Result, resultOf, putInto}
 
 -- into an output that is long enough, all bytes are copied
 pub put-fits : (packed out after : List ℕ) → length packed ≤ length out → after ≡ take (length packed) packed ++ drop (length packed) out

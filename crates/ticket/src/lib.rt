@@ -5,12 +5,12 @@ mod word;
 ghost use mathlib.Core.Path.{_≡_};
 ghost use mathlib.Core.Bool.{true};
 ghost use Prim.Native.Nat.{ℕ, _+_, _*_, _/_, _%_, _^_, _<_};
-ghost use Rattle.acorn_model.specs.Calls.{writtenReply};
+ghost use Rattle.calls.specs.Calls.{writtenReply, putInto};
 ghost use Rattle.tape_model.specs.Format.{join, cut, byteWidths, widths};
 ghost use Rattle.tape_model.specs.Ticket as model;
-ghost use Rattle.tape_model.specs.Tape.{ticketsLength, plainTotals, openedReply};
-ghost use Rattle.ticket.specs.Packing.{putInto, packedOrZeros};
-use acorn_model::Written;
+ghost use Rattle.tape_model.specs.Tape.{isTicketsLength, plainTotals, openedReply};
+ghost use Rattle.ticket.specs.Packing.{packedOrZeros};
+use calls::Written;
 use tape_model::Head;
 use tape_model::OpenedTape;
 use tape_model::Ticket;
@@ -224,8 +224,8 @@ pub fn unpack_head(packed: &[u8]) -> UnpackedHead
 }
 
 // Whether so many bytes are 13 for each of at most 5,000 tickets.
-pub fn tickets_length(n: usize) -> bool
-    ensures { λ r. ⌜ r ≡ ticketsLength n ⌝ }
+pub fn is_tickets_length(n: usize) -> bool
+    ensures { λ r. ⌜ r ≡ isTicketsLength n ⌝ }
 {
     (n % 13 == 0) & (n / 13 <= 5000)
 }
@@ -235,7 +235,7 @@ pub fn totals(plain: &[u8]) -> OpenedTape
     ensures { λ r. ⌜ openedReply r ≡ plainTotals (now (plain .entry)) ⌝ }
 {
     let size = plain.len();
-    if !tickets_length(size) {
+    if !is_tickets_length(size) {
         return OpenedTape::Refused(2);
     }
     let tickets = size / 13;

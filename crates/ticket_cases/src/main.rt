@@ -1,5 +1,5 @@
 // Runs document 01's cases (h) to (l) on the code of tickets and heads, then totals of plain bytes, and prints what they give.
-use acorn_model::Written;
+use calls::Written;
 use tape_model::Head;
 use tape_model::OpenedTape;
 use tape_model::Ticket;

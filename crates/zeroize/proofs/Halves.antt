@@ -6,8 +6,8 @@ use native.Mathlib.Omega.{arith}
 use lib.ListN.{length, take, drop, replicate, length-append, length-drop, length-replicate, replicate-append-replicate}
 use lib.Seq.{length-take-le, drop-length}
 use borrow.Rule.Slice.PartMut.{putMid}
-use Rattle.acorn_model.specs.Calls.{writtenOver}
-use Rattle.acorn_model.proofs.Writing.{written-behind}
+use Rattle.calls.specs.Calls.{writtenOver}
+use Rattle.calls.proofs.Writing.{written-behind}
 
 abbrev zeros : ℕ → List ℕ
 zeros n = replicate n 0

@@ -3,9 +3,10 @@
 use haul_tape_twin::cipher::{open, paper_seal, seal};
 use haul_tape_twin::message;
 
-/// Key, nonce, data, text, ciphertext, tag, in hexadecimal. The first two are published answers of
-/// the designer's reference code; of the third the ciphertext is published and the tag computed;
-/// the fourth is computed.
+/// Key, nonce, data, text, ciphertext, tag, in hexadecimal. The first two are published answers: the
+/// test suite of a public implementation of version 3 carries them as answers of the designer's
+/// reference code, which nobody ran here. Of the third the ciphertext is published and the tag
+/// computed; the fourth is computed.
 const KNOWN: [[&str; 6]; 4] = [
     [
         "00000000000000000000000000000000",

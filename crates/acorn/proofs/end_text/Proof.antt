@@ -8,7 +8,7 @@ use Rattle.acorn_model.specs.Step.{run}
 use Rattle.acorn_model.specs.Stretches.{inputs, textEnd}
 use Rattle.acorn_kernel.specs.Together.{stateOf}
 use Rattle.acorn.specs.Table.{firstStep, rowOf}
-use Rattle.acorn.specs.declared.stretch.Stretch.the-variants.{TextEnd}
+use Rattle.acorn.specs.declared.stretch.StretchName.the-variants.{TextEnd}
 use Rattle.acorn.proofs.StretchRuns.{state-none, state-all}
 use Rattle.acorn.proofs.ControlTable.{stepsOf, ca-of-row, cb-of-row}
 use Rattle.acorn.proofs.FixedRuns.{end-more}

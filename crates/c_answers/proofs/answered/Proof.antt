@@ -1,6 +1,6 @@
 -- `answered` meets its contract.
 use borrow.Author.Needs.{needs}
-use Rattle.acorn_model.specs.Calls.{answerReply}
+use Rattle.calls.specs.Calls.{answerReply}
 use Rattle.c_answers.specs.Answers.{answerNumbers}
 use Rattle.c_answers.proofs.answered.Statement.{statement}
 use Rattle.c_answers.proofs.answered.Tie as tie

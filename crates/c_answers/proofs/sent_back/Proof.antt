@@ -1,7 +1,6 @@
 -- `sent_back` meets its contract.
 use borrow.Author.Needs.{needs}
-use Rattle.acorn_model.specs.Calls.{answerReply}
-use Rattle.c_answers.specs.Answers.{sentBack}
+use Rattle.calls.specs.Calls.{answerReply, sentBack}
 use Rattle.c_answers.proofs.sent_back.Statement.{statement}
 use Rattle.c_answers.proofs.sent_back.Tie as tie
 

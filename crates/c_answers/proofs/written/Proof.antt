@@ -1,6 +1,6 @@
 -- `written` meets its contract.
 use borrow.Author.Needs.{needs}
-use Rattle.acorn_model.specs.Calls.{writtenReply}
+use Rattle.calls.specs.Calls.{writtenReply}
 use Rattle.c_answers.specs.Answers.{writtenNumbers}
 use Rattle.c_answers.proofs.written.Statement.{statement}
 use Rattle.c_answers.proofs.written.Tie as tie

@@ -5,7 +5,7 @@ use Prim.Native.Nat.{_-_, _≤_}
 use native.Mathlib.Omega.{arith}
 use lib.Dec.{eqb}
 use lib.ListN.{length, drop}
-use Rattle.acorn_model.specs.Calls.{sameBytes}
+use Rattle.calls.specs.Calls.{sameBytes}
 use Rattle.compare.proofs.Compared.{other-length, compare-more, compare-all}
 use Rattle.compare.proofs.same_bytes.Statement.{statement}
 use Rattle.compare.proofs.same_bytes.Tie as tie

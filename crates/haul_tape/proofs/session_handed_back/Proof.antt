@@ -1,7 +1,7 @@
 -- `session_handed_back` meets its contract.
 use mathlib.Core.Path.{sym, _∙_}
 use borrow.Author.Needs.{needs}
-use Rattle.session.specs.Contracts.{outcomeOf}
+use Rattle.session.specs.Contracts.{sessionOutcome}
 use Rattle.haul_tape.specs.Contracts.{wordsAfter}
 use Rattle.haul_tape.proofs.session_handed_back.Statement.{statement}
 use Rattle.haul_tape.proofs.session_handed_back.Tie as tie
@@ -13,14 +13,14 @@ sent-back-requires : tie.Need-sent-back-requires
 sent-back-requires c κs = search needs
 
 returns : tie.Need-returns
-unfolding wordsAfter outcomeOf
+unfolding wordsAfter sessionOutcome
 returns c = (c .before .before .answered .ensures, rw (sym (c .before .sent-back .ensures) ∙ c .if1 .taken))
 
 words-requires : tie.Need-words-requires
 words-requires c κs = search needs
 
 returns-2 : tie.Need-returns-2
-unfolding wordsAfter outcomeOf
+unfolding wordsAfter sessionOutcome
 returns-2 c = (c .before .before .before .answered .ensures, rw (sym (c .before .before .sent-back .ensures) ∙ c .before .if1 .left) (c .words .ensures))
 
 pub session-handed-back-spec : {M : Type 1} → statement M

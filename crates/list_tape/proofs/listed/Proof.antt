@@ -3,7 +3,7 @@ use mathlib.Core.Path.{sym, ap}
 use native.Mathlib.Omega.{arith}
 use lib.Seq.{length-take-le}
 use borrow.Author.Needs.{needs}
-use Rattle.acorn_model.specs.Calls.{writtenReply}
+use Rattle.calls.specs.Calls.{writtenReply}
 use Rattle.listing.proofs.Texts.{wrote-within}
 use Rattle.listing.proofs.Inputs.{printed-length, not-refused, input-wrote}
 use Rattle.list_tape.proofs.listed.Statement.{statement}

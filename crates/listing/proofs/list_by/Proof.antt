@@ -5,12 +5,11 @@ use Prim.Native.Nat.{ℕ}
 use native.Mathlib.Omega.{arith}
 use lib.Seq.{length-take-le}
 use borrow.Author.Needs.{needs}
-use Rattle.acorn_model.specs.Calls.{refused, done}
+use Rattle.calls.specs.Calls.{refused, done, putInto}
 use Rattle.tape_model.specs.declared.OpenedTape.{OpenedTape}
 use Rattle.tape_model.specs.Ticket.{headLength}
 use Rattle.tape_model.specs.Tape.{openTape, openedReply}
 use Rattle.tape_model.proofs.Opening.{size, was-accepted, few-tickets}
-use Rattle.ticket.specs.Packing.{putInto}
 use Rattle.listing.proofs.Opened.{same-answer, as-opened, refused-listing, opened-tickets, opened-listing}
 use Rattle.listing.proofs.list_by.Statement.{statement}
 use Rattle.listing.proofs.list_by.Tie as tie

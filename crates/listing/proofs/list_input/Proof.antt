@@ -6,7 +6,7 @@ use lib.Seq.{length-take-le}
 use borrow.Author.Needs.{needs}
 use Rattle.acorn_model.specs.Machine.{keyLength}
 use Rattle.tape_model.specs.Listing.{printed}
-use Rattle.ticket.specs.Packing.{putInto}
+use Rattle.calls.specs.Calls.{putInto}
 use Rattle.listing.proofs.Inputs.{end-within, input-printed}
 use Rattle.listing.proofs.list_input.Statement.{statement}
 use Rattle.listing.proofs.list_input.Tie as tie

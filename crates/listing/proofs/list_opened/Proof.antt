@@ -5,7 +5,7 @@ use Rattle.tape_model.specs.declared.UnpackedHead.{UnpackedHead}
 use Rattle.tape_model.specs.Ticket.{headReply}
 use Rattle.tape_model.specs.Tape.{ticketsIn}
 use Rattle.tape_model.specs.Listing.{listed}
-use Rattle.ticket.specs.Packing.{putInto}
+use Rattle.calls.specs.Calls.{putInto}
 use Rattle.listing.specs.Contracts.{unpacked}
 use Rattle.listing.proofs.list_opened.Statement.{statement}
 use Rattle.listing.proofs.list_opened.Tie as tie

@@ -1,7 +1,7 @@
 -- `list_tickets`: the text is written where it fits.
 use native.Mathlib.Omega.{arith}
 use borrow.Author.Needs.{needs}
-use Rattle.acorn_model.specs.Calls.{done}
+use Rattle.calls.specs.Calls.{done}
 use Rattle.tape_model.specs.Tape.{ticketsIn}
 use Rattle.tape_model.specs.Listing.{listed}
 use Rattle.listing.specs.Contracts.{unpacked}

@@ -9,9 +9,10 @@ use native.Mathlib.Omega.{arith}
 use lib.ListN.{length, take, drop, length-take, length-drop}
 use lib.Seq.{length-take-le}
 use borrow.Rule.Slice.PartMut.{same-len-mid}
-use Rattle.acorn_model.specs.Bits.{Bits, _if_else_}
-use Rattle.acorn_model.specs.Stretches.{tagLength, through, textEnd, tagOf}
-use Rattle.acorn_model.specs.Calls.{writtenOver, sameBytes}
+use Rattle.acorn_model.specs.Bits.{Bits}
+use Rattle.calls.specs.Calls.{_if_else_, writtenOver, sameBytes}
+use Rattle.acorn_model.specs.Stretches.{through, textEnd, tagOf}
+use Rattle.acorn_model.specs.Machine.{tagLength}
 use Rattle.acorn_kernel.specs.Together.{stateOf}
 use Rattle.message.specs.Contracts.{restMatches, restOpened}
 use Rattle.message.proofs.Rest.{all-left, matches-behind, next-state, piece-text, handed-over, tag-last, last-handed-over}

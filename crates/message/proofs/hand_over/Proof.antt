@@ -5,7 +5,7 @@ use Prim.Native.Nat.{ℕ}
 use native.Mathlib.Omega.{arith}
 use lib.ListN.{length, take, drop, length-take}
 use lib.Seq.{length-take-le, take-length}
-use Rattle.acorn_model.specs.Calls.{writtenOver}
+use Rattle.calls.specs.Calls.{writtenOver}
 use borrow.Author.Needs.{needs}
 use Rattle.message.proofs.hand_over.Statement.{statement}
 use Rattle.message.proofs.hand_over.Tie as tie

@@ -2,7 +2,7 @@
 use mathlib.Core.Path.{_≡_}
 use native.Mathlib.Omega.{arith}
 use borrow.Author.Needs.{needs}
-use Rattle.acorn_model.specs.Calls.{writtenReply}
+use Rattle.calls.specs.Calls.{writtenReply}
 use Rattle.acorn_model.specs.Message.{tagRefusal, openRefusal}
 use Rattle.acorn_model.proofs.Messages.{Openable}
 use Rattle.message.proofs.Opening.{sent-back, let-through, openable, opened-by-rest, refused-by-tag}

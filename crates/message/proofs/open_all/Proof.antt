@@ -3,7 +3,7 @@ use mathlib.Core.Path.{_≡_, sym, _∙_}
 use native.Mathlib.Omega.{arith}
 use borrow.Author.Needs.{needs}
 use lib.ListN.{length}
-use Rattle.acorn_model.specs.Stretches.{tagLength}
+use Rattle.acorn_model.specs.Machine.{tagLength}
 use Rattle.acorn_kernel.specs.Together.{stateOf}
 use Rattle.message.proofs.Rest.{tag-alone, nothing-written}
 use Rattle.message.proofs.open_all.Statement.{statement}

@@ -4,9 +4,9 @@ use lib.Dec.{ltb}
 use lib.ListN.{length}
 use borrow.Author.Tests.{lt-ltb, le-ltb, ltb-false}
 use borrow.Author.Needs.{needs}
-use Rattle.acorn_model.specs.Calls.{unlessRefused}
+use Rattle.calls.specs.Calls.{unlessRefused}
 use Rattle.acorn_model.specs.Message.{openRefusal}
-use Rattle.acorn_model.proofs.Choices.{neither}
+use Rattle.calls.proofs.Choices.{neither}
 use Rattle.message.proofs.open_refusal.Statement.{statement}
 use Rattle.message.proofs.open_refusal.Tie as tie
 

@@ -1,6 +1,6 @@
 -- `seal` is whole sealing, refusals included.
 use native.Mathlib.Omega.{arith}
-use Rattle.acorn_model.specs.Calls.{writtenReply}
+use Rattle.calls.specs.Calls.{writtenReply}
 use Rattle.message.proofs.Sealing.{sent-back, let-through, sealed-by-parts}
 use borrow.Author.Needs.{needs}
 use Rattle.message.proofs.seal.Statement.{statement}

@@ -7,7 +7,7 @@ use lib.ListN.{length}
 use borrow.Author.Tests.{lt-ltb, le-ltb, ltb-false}
 use borrow.Author.Needs.{needs}
 use Rattle.acorn_model.specs.Message.{sealRefusal}
-use Rattle.acorn_model.proofs.Choices.{neither}
+use Rattle.calls.proofs.Choices.{neither}
 use Rattle.message.proofs.seal_refusal.Statement.{statement}
 use Rattle.message.proofs.seal_refusal.Tie as tie
 

@@ -1,7 +1,7 @@
 -- `tag_is` compares the tag of the state after the text end.
 use mathlib.Core.Path.{ap, _∙_}
 use Rattle.acorn_model.specs.Stretches.{tagOf}
-use Rattle.acorn_model.specs.Calls.{sameBytes}
+use Rattle.calls.specs.Calls.{sameBytes}
 use borrow.Author.Needs.{needs}
 use Rattle.message.proofs.tag_is.Statement.{statement}
 use Rattle.message.proofs.tag_is.Tie as tie

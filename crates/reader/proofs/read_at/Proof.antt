@@ -10,20 +10,20 @@ use Rattle.reader.proofs.Cases.{wrong-size, no-more, unpacked, not-unpa
 use Rattle.reader.proofs.read_at.Statement.{statement}
 use Rattle.reader.proofs.read_at.Tie as tie
 
-tickets-length-requires : tie.Need-tickets-length-requires
-tickets-length-requires c κs = search needs
+is-tickets-length-requires : tie.Need-is-tickets-length-requires
+is-tickets-length-requires c κs = search needs
 
 returns : tie.Need-returns
 unfolding readOutcome nextReply
 returns c =
     let a = c .before .before .before .args in
-    wrong-size (a .bytes .now) (a .position) _ (c .before .tickets-length .ensures) (c .if1 .taken)
+    wrong-size (a .bytes .now) (a .position) _ (c .before .is-tickets-length .ensures) (c .if1 .taken)
 
 returns-2 : tie.Need-returns-2
 unfolding readOutcome nextReply
 returns-2 c =
     let a = c .before .before .before .before .args in
-    no-more (a .bytes .now) (a .position) _ (c .before .before .tickets-length .ensures) (c .before .if1 .left) (c .if2 .taken)
+    no-more (a .bytes .now) (a .position) _ (c .before .before .is-tickets-length .ensures) (c .before .if1 .left) (c .if2 .taken)
 
 mul-at : tie.Need-mul-at
 mul-at c = search needs
@@ -54,7 +54,7 @@ unfolding readOutcome nextReply ticketReply
 returns-3 c =
     let e = c .before .before .before .before in
     let a = e .before .before .before .before .args in
-    not-unpacked (a .bytes .now) (a .position) _ (e .before .before .tickets-length .ensures) (e .before .if1 .left)
+    not-unpacked (a .bytes .now) (a .position) _ (e .before .before .is-tickets-length .ensures) (e .before .if1 .left)
     (13 * a .position + 13 - 13 * a .position) (e .if2 .left) (omega arith) _
     (ap ticketReply (sym (c .enum-told .given .1)) ∙ c .before .before .unpack-ticket .ensures)
 
@@ -66,7 +66,7 @@ unfolding readOutcome nextReply ticketReply handedOut
 returns-4 c =
     let e = c .before .before .before .before .before in
     let a = e .before .before .before .before .args in
-    unpacked (a .bytes .now) (a .position) _ (e .before .before .tickets-length .ensures) (e .before .if1 .left)
+    unpacked (a .bytes .now) (a .position) _ (e .before .before .is-tickets-length .ensures) (e .before .if1 .left)
     (13 * a .position + 13 - 13 * a .position) (e .if2 .left) (omega arith) _
     (ap ticketReply (sym (c .before .t .given .1)) ∙ c .before .before .before .unpack-ticket .ensures)
 
@@ -74,7 +74,7 @@ pub read-at-spec : {M : Type 1} → statement M
 read-at-spec =
     tie.close
     (tie.spec
-    tickets-length-requires
+    is-tickets-length-requires
     returns
     returns-2
     mul-at

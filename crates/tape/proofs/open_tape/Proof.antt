@@ -1,13 +1,13 @@
 -- `open_tape` opens tapes, refusals included.
 use mathlib.Core.Path.{_≡_}
-use Rattle.tape_model.specs.Tape.{openRefusal, openedReply}
+use Rattle.tape_model.specs.Tape.{openTapeRefusal, openedReply}
 use Rattle.tape.specs.Contracts.{textRefusal}
 use Rattle.tape.proofs.Sizes.{sent-back, let-through}
 use borrow.Author.Needs.{needs}
 use Rattle.tape.proofs.open_tape.Statement.{statement}
 use Rattle.tape.proofs.open_tape.Tie as tie
 
-only-text : (c : tie.Else1) → let a = c .before .before .before .before .before .before .args in openRefusal (a .key .now) (a .tape .now) (a .out .now) ≡ textRefusal (a .key .now) (a .tape .now)
+only-text : (c : tie.Else1) → let a = c .before .before .before .before .before .before .args in openTapeRefusal (a .key .now) (a .tape .now) (a .out .now) ≡ textRefusal (a .key .now) (a .tape .now)
 only-text c =
     let n = c .before in
     let a = n .before .before .before .before .before .args in

@@ -1,8 +1,7 @@
 -- `pack_head` is the packing of heads into lent bytes, refusals included.
 use mathlib.Core.Path.{sym, _∙_}
 use borrow.Author.Needs.{needs}
-use Rattle.acorn_model.specs.Calls.{writtenReply, unlessRefused}
-use Rattle.acorn_model.specs.Message.{resultOf}
+use Rattle.calls.specs.Calls.{writtenReply, unlessRefused, resultOf}
 use Rattle.tape_model.specs.Ticket.{packHeadInto}
 use Rattle.tape_model.proofs.Tickets.{head-length}
 use Rattle.ticket.proofs.Writing.{packing-puts}

@@ -1,8 +1,7 @@
 -- `pack_ticket` is the packing of tickets into lent bytes, refusals included.
 use mathlib.Core.Path.{sym, _∙_}
 use borrow.Author.Needs.{needs}
-use Rattle.acorn_model.specs.Calls.{writtenReply, unlessRefused}
-use Rattle.acorn_model.specs.Message.{resultOf}
+use Rattle.calls.specs.Calls.{writtenReply, unlessRefused, resultOf}
 use Rattle.tape_model.specs.Ticket.{packTicketInto}
 use Rattle.tape_model.proofs.Tickets.{ticket-length}
 use Rattle.ticket.proofs.Writing.{packing-puts}

@@ -1,9 +1,7 @@
 -- `put` copies into an output that is long enough, and refuses any other.
 use borrow.Author.Tests.{lt-ltb}
 use borrow.Author.Needs.{needs}
-use Rattle.acorn_model.specs.Calls.{writtenReply, unlessRefused}
-use Rattle.acorn_model.specs.Message.{resultOf}
-use Rattle.ticket.specs.Packing.{putInto}
+use Rattle.calls.specs.Calls.{writtenReply, unlessRefused, resultOf, putInto}
 use Rattle.ticket.proofs.Writing.{put-fits}
 use Rattle.ticket.proofs.put.Statement.{statement}
 use Rattle.ticket.proofs.put.Tie as tie

@@ -17,17 +17,17 @@ Inv-loop plain size tickets i₀ sum₀ i sum =
 abbrev μ-loop : tie.MeasureT-loop
 μ-loop plain size tickets i₀ sum₀ i sum = tickets - i
 
-tickets-length-requires : tie.Need-tickets-length-requires Inv-loop μ-loop
-tickets-length-requires c κs = search needs
+is-tickets-length-requires : tie.Need-is-tickets-length-requires Inv-loop μ-loop
+is-tickets-length-requires c κs = search needs
 
 returns : tie.Need-returns Inv-loop μ-loop
 unfolding openedReply plainTotals
-returns c = rw (sym (c .before .tickets-length .ensures), c .if1 .taken)
+returns c = rw (sym (c .before .is-tickets-length .ensures), c .if1 .taken)
 
 loop-holds : tie.Need-loop-holds Inv-loop μ-loop
 loop-holds c =
     let s = c .before .before .before .args .plain .now in
-    (omega arith, few-tickets s _ (c .before .tickets-length .ensures) (c .if1 .left), omega arith, all-left _ _)
+    (omega arith, few-tickets s _ (c .before .is-tickets-length .ensures) (c .if1 .left), omega arith, all-left _ _)
 
 mul-at : tie.Need-mul-at Inv-loop μ-loop
 mul-at c = search needs
@@ -59,7 +59,7 @@ returns-2 c =
     let e = c .before .before .before .before .before .before in
     let s = e .before .before .before .args .plain .now in
     let l = c .before .before .before .before .before .loop in
-    length-allowed s _ (e .before .tickets-length .ensures) (e .if1 .left) _
+    length-allowed s _ (e .before .is-tickets-length .ensures) (e .if1 .left) _
     (one-refused s _ (l .i) (l .sum) (13 * l .i + 13 - 13 * l .i) (omega arith) (omega arith) _ (omega arith)
     (ap ticketReply (sym (c .enum-told .given .1)) ∙ c .before .before .unpack-ticket .ensures)
     ∙ l .inv .3)
@@ -98,7 +98,7 @@ returns-3 c =
     let e = c .before .before in
     let s = e .before .before .before .args .plain .now in
     let l = c .before .loop in
-    length-allowed s _ (e .before .tickets-length .ensures) (e .if1 .left) _ (none-left s _ (l .i) (l .sum) (omega arith) ∙ l .inv .3)
+    length-allowed s _ (e .before .is-tickets-length .ensures) (e .if1 .left) _ (none-left s _ (l .i) (l .sum) (omega arith) ∙ l .inv .3)
 
 pub totals-spec : {M : Type 1} → statement M
 totals-spec =
@@ -106,7 +106,7 @@ totals-spec =
     (tie.spec
     Inv-loop
     μ-loop
-    tickets-length-requires
+    is-tickets-length-requires
     returns
     loop-holds
     mul-at

@@ -5,7 +5,7 @@ use native.Mathlib.Omega.{arith}
 use borrow.Author.Needs.{needs}
 use borrow.Author.Tests.{lt-ltb, le-ltb}
 use Rattle.acorn.specs.Table.{rowOf, firstStep}
-use Rattle.acorn.specs.declared.stretch.Stretch.the-variants.{Start, Data, DataEnd, Text, TextEnd, Final}
+use Rattle.acorn.specs.declared.stretch.StretchName.the-variants.{Start, Data, DataEnd, Text, TextEnd, Final}
 use Rattle.acorn.proofs.ControlTable.{in-start, in-data, in-data-end, in-text, in-text-end, in-final, controls-in}
 use Rattle.acorn.proofs.stretch.controls_at.Statement.{statement}
 use Rattle.acorn.proofs.stretch.controls_at.Tie as tie

@@ -4,7 +4,7 @@ use Prim.Native.Nat.{_*_, _-_, _≤_}
 use native.Mathlib.Omega.{arith}
 use lib.ListN.{length, take}
 use borrow.Author.Needs.{needs}
-use Rattle.acorn_model.specs.Calls.{done}
+use Rattle.calls.specs.Calls.{done}
 use Rattle.tape_model.specs.Tape.{ticketsIn}
 use Rattle.tape_model.specs.Reader.{ReadOutcome, ticket, readNext, nextReply}
 use Rattle.tape_model.specs.Listing.{ticketLines}

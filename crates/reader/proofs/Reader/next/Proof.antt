@@ -44,7 +44,7 @@ use denote.Triple.Walked.{says, Stays, stay-none, walkOf, goes-none, Walks, ends
 use denote.Exit.{yes}
 use denote.Triple.Clauses.{ensured, lasts}
 use Rattle.tape_model.specs.Reader.{readNext}
-use Rattle.reader.specs.Contracts.{readerAt, readOutcome, readerOf, outcomeOf, NextCalled}
+use Rattle.reader.specs.Contracts.{readerAt, readOutcome, readerOf, readerOutcome, NextCalled}
 use Rattle.reader.specs.declared.Reader.{Reader}
 use Rattle.reader.specs.declared.ReadAt.{ReadAt}
 use Rattle.reader.proofs.Reader as T
@@ -66,7 +66,7 @@ use Rattle.reader.proofs.Reader.next.Code as code
 -- what is known of the step is what is to be shown of the result
 called : (d : Reader) (r : ReadAt) → readOutcome (now (d .bytes)) r ≡ readNext (readerAt (now (d .bytes)) (d .position))
     → NextCalled d (record { reader = record { bytes = d .bytes; position = r .position }; answer = r .answer })
-unfolding readOutcome readerOf outcomeOf
+unfolding readOutcome readerOf readerOutcome
 called d r e = record { same = refl; outcome = e }
 
 -- the struct's type, over the signature's lifetimes

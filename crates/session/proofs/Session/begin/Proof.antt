@@ -3,7 +3,7 @@ use mathlib.Core.Path.{refl, sym}
 use mathlib.Core.List.{[]}
 use native.Mathlib.Omega.{arith}
 use borrow.Author.Needs.{needs}
-use Rattle.acorn_model.specs.Calls.{writtenOver}
+use Rattle.calls.specs.Calls.{writtenOver}
 use Rattle.acorn_model.specs.Machine.{begin, outputOf, phaseAllows, sizesRight, overLimit, outputShort, runThrough, enter, cleared, begun, work}
 use Rattle.acorn.specs.Runs.{startState}
 use Rattle.session.specs.Contracts.{machineOf, wrapped}

@@ -4,7 +4,7 @@ use mathlib.Core.Bool.{_&&_}
 use native.Mathlib.Omega.{arith}
 use borrow.Author.Needs.{needs}
 use Rattle.acorn_model.specs.Stretches.{tagOf}
-use Rattle.acorn_model.specs.Calls.{sameBytes}
+use Rattle.calls.specs.Calls.{sameBytes}
 use Rattle.acorn_model.specs.Machine.{checkClose, outputOf, phaseAllows, sizesRight, overLimit, outputShort, textEnded}
 use Rattle.session.specs.Contracts.{machineOf}
 use Rattle.session.proofs.NextSession.{closing-state}

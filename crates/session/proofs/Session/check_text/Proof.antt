@@ -7,9 +7,9 @@ use native.Mathlib.Omega.{arith}
 use borrow.Author.Needs.{needs}
 use borrow.Author.Tests.{ltb-false}
 use lib.ListN.{length}
-use Rattle.acorn_model.specs.Calls.{writtenOver}
+use Rattle.calls.specs.Calls.{writtenOver}
 use Rattle.acorn_model.specs.Machine.{checkText, outputOf, isChecking, isData, isText, phaseAllows, sizesRight, byteLimit, overLimit, outputShort, textTaken, work}
-use Rattle.acorn_model.proofs.Choices.{both}
+use Rattle.calls.proofs.Choices.{both}
 use Rattle.session.specs.Contracts.{machineOf}
 use Rattle.session.proofs.NextSession.{text-state}
 use Rattle.session.proofs.Replies.{Numbered, by-tests, passes, refuses, writes}

@@ -6,7 +6,7 @@ use native.Mathlib.Omega.{arith}
 use borrow.Author.Needs.{needs}
 use borrow.Author.Tests.{ltb-false}
 use lib.ListN.{length}
-use Rattle.acorn_model.specs.Calls.{writtenOver}
+use Rattle.calls.specs.Calls.{writtenOver}
 use Rattle.acorn_model.specs.Machine.{dataCall, outputOf, phaseAllows, sizesRight, byteLimit, overLimit, outputShort, runThrough, countData, dataTaken, work}
 use Rattle.session.specs.Contracts.{machineOf, wrapped}
 use Rattle.session.proofs.NextSession.{stands-for}

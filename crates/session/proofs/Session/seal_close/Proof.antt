@@ -5,7 +5,7 @@ use native.Mathlib.Omega.{arith}
 use borrow.Author.Needs.{needs}
 use Rattle.acorn_model.specs.Bits.{Bits}
 use Rattle.acorn_model.specs.Stretches.{tagOf}
-use Rattle.acorn_model.specs.Calls.{writtenOver}
+use Rattle.calls.specs.Calls.{writtenOver}
 use Rattle.acorn_model.specs.Machine.{sealClose, outputOf, phaseAllows, sizesRight, overLimit, outputShort, textEnded, closed, work}
 use Rattle.acorn_model.proofs.Outputs.{tagOf-length}
 use Rattle.acorn.specs.Runs.{tagOutput}

@@ -7,7 +7,7 @@ use borrow.Author.Needs.{needs}
 use borrow.Author.Tests.{ltb-false}
 use lib.Dec.{ltb}
 use lib.ListN.{length}
-use Rattle.acorn_model.specs.Calls.{accepted}
+use Rattle.calls.specs.Calls.{accepted}
 use Rattle.acorn_model.specs.Machine.{sealText, outputOf, isData, isText, phaseAllows, sizesRight, byteLimit, overLimit, outputShort, dataEnded, textTaken, work}
 use Rattle.acorn_model.proofs.Outputs.{textOut-length}
 use Rattle.session.specs.Contracts.{machineOf, refusalBy}

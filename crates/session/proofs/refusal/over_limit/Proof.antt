@@ -5,7 +5,7 @@ use Prim.Native.Nat.{ℕ, _+_, _-_, _≤_}
 use native.Mathlib.Omega.{arith}
 use borrow.Author.Tests.{lt-ltb, le-ltb}
 use lib.Dec.{ltb}
-use Rattle.acorn_model.proofs.Numbers.{lt-or-ge}
+use Rattle.calls.proofs.Choices.{lt-or-ge}
 use Rattle.session.proofs.refusal.over_limit.Statement.{statement}
 use Rattle.session.proofs.refusal.over_limit.Tie as tie
 

@@ -4,8 +4,7 @@ use Prim.Native.Nat.{_-_}
 use native.Mathlib.Omega.{arith}
 use lib.ListN.{length}
 use lib.Seq.{length-take-le}
-use Rattle.acorn_model.specs.Stretches.{tagLength}
-use Rattle.tape_model.specs.Tape.{nonceOf}
+use Rattle.tape_model.specs.Tape.{tapeTagLength, nonceOf}
 use Rattle.tape.proofs.Decrypting.{tag-compared, text-decrypted}
 use borrow.Author.Needs.{needs}
 use Rattle.tape.proofs.opening.decrypted.Statement.{statement}
@@ -20,7 +19,7 @@ after-head-requires c κs = search needs
 slice-aggregate-decrypt : tie.Need-slice-aggregate-decrypt
 slice-aggregate-decrypt c =
     let s = c .before .before .before .before .before .before .args .sealed .now in
-    sym (length-take-le (length s - tagLength) s (omega arith))
+    sym (length-take-le (length s - tapeTagLength) s (omega arith))
 
 decrypt-requires : tie.Need-decrypt-requires
 decrypt-requires c κs = search needs

@@ -4,7 +4,7 @@ use Prim.Native.Nat.{_-_}
 use native.Mathlib.Omega.{arith}
 use lib.ListN.{length, length-take}
 use lib.Seq.{length-take-le}
-use Rattle.acorn_model.specs.Message.{Result}
+use Rattle.calls.specs.Calls.{Result}
 use Rattle.tape_model.specs.Tape.{Totals, emptyTapeLength, openedReply}
 use Rattle.tape.proofs.Sizes.{Openable, openable}
 use Rattle.tape.proofs.ByScratch.{into-scratch, not-copied, copied-out}

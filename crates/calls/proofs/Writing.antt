@@ -6,7 +6,7 @@ use native.Mathlib.Omega.{arith}
 use lib.ListN.{length, take, drop, length-append, length-drop}
 use lib.Seq.{take-at, drop-at, take-all, drop-drop, drop-length}
 use borrow.Rule.Slice.PartMut.{putMid}
-use Rattle.acorn_model.specs.Calls.{writtenOver}
+use Rattle.calls.specs.Calls.{writtenOver}
 
 pub written-length : (a out : List ℕ) → length a ≤ length out → length (writtenOver a out) ≡ length out
 unfolding writtenOver

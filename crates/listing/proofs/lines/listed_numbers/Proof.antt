@@ -1,6 +1,6 @@
 use borrow.Author.Needs.{needs}
-use Rattle.listing.proofs.lines.ticket_numbers.Statement.{statement}
-use Rattle.listing.proofs.lines.ticket_numbers.Tie as tie
+use Rattle.listing.proofs.lines.listed_numbers.Statement.{statement}
+use Rattle.listing.proofs.lines.listed_numbers.Tie as tie
 
 -- src/lines.rt:46:9
 cast-t2 : tie.Need-cast-t2
@@ -38,7 +38,7 @@ cast-t9 c = search needs
 returns : tie.Need-returns
 returns c = cc
 
-pub ticket-numbers-spec : {M : Type 1} → statement M
-ticket-numbers-spec =
+pub listed-numbers-spec : {M : Type 1} → statement M
+listed-numbers-spec =
     tie.close
     (tie.spec cast-t2 cast-t3 cast-t4 cast-t5 cast-t6 cast-t7 net-requires cast-t9 returns)

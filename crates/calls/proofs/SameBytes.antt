@@ -5,8 +5,8 @@ use mathlib.Core.List.{List, [], _∷_}
 use Prim.Native.Nat.{ℕ}
 use lib.Dec.{eqb}
 use borrow.Author.Tests.{eq-eqb, eqb-true}
-use Rattle.acorn_model.specs.Calls.{sameBytes}
-use Rattle.acorn_model.proofs.Choices.{both}
+use Rattle.calls.specs.Calls.{sameBytes}
+use Rattle.calls.proofs.Choices.{both}
 
 pub same-bytes-refl : (l : List ℕ) → sameBytes l l ≡ true
 unfolding sameBytes
