@@ -10,7 +10,7 @@ use lib.ListN.{length, drop-of-length-le}
 use borrow.Author.Tests.{lt-ltb, le-ltb, eq-eqb, ne-eqb}
 use Rattle.acorn_model.specs.Bits.{Bits, _⊕_, bit, bitsIn}
 use Rattle.acorn_model.specs.Step.{StepInput, run, keystreamBit}
-use Rattle.acorn_model.specs.Stretches.{Stretch, inputs, through, keystream, zeros, start, startBit, final, tagOf, tagBytes}
+use Rattle.acorn_model.specs.Stretches.{Stretch, inputs, through, keystream, zeros, start, startBit, final, tagOf, paperTagLength}
 use Rattle.calls.specs.Calls.{writtenOver}
 use Rattle.acorn_kernel.specs.Together.{inputsFrom, Together}
 use Rattle.acorn.specs.Runs.{startState, tagOutput}
@@ -120,22 +120,22 @@ module _ (S T T' : Bits) (step n z : ℕ) (ca cb : Bool) (h : 1050880 ≤ step) 
   final-ks = ks-more final S T T' n 32 0 z (omega arith) false ca cb reached same steps
 
 -- the last 16 bytes of the ks of final
-pub tag-all : (S T : Bits) (out₀ out : List ℕ) → T ≡ run (inputs final) 640 S → tagBytes ≤ length out₀ → Written (keystream final T) out₀ 16 out → out ≡ tagOutput S out₀
+pub tag-all : (S T : Bits) (out₀ out : List ℕ) → T ≡ run (inputs final) 640 S → paperTagLength ≤ length out₀ → Written (keystream final T) out₀ 16 out → out ≡ tagOutput S out₀
 unfolding tagOutput tagOf keystream
 tag-all S T out₀ out e h w =
     written-all (keystream final T) 16 out₀ out w
     ∙ ap (λ (t : List ℕ). writtenOver t out₀)
     (bytes-same 16 (keystream final T) (λ j. keystream final S (640 + j)) (λ j l. ap keystreamBit (ap (run (inputs final) j) e ∙ sym (run-add (inputs final) 640 j S))))
-    ∙ ap (λ (t : Bool). cond t out₀ (writtenOver (tagOf S) out₀)) (sym (le-ltb (length out₀) tagBytes h))
+    ∙ ap (λ (t : Bool). cond t out₀ (writtenOver (tagOf S) out₀)) (sym (le-ltb (length out₀) paperTagLength h))
 
-pub tag-refused : (S : Bits) (out : List ℕ) → length out < tagBytes → out ≡ tagOutput S out
+pub tag-refused : (S : Bits) (out : List ℕ) → length out < paperTagLength → out ≡ tagOutput S out
 unfolding tagOutput
-tag-refused S out h = ap (λ (t : Bool). cond t out (writtenOver (tagOf S) out)) (sym (lt-ltb (length out) tagBytes h))
+tag-refused S out h = ap (λ (t : Bool). cond t out (writtenOver (tagOf S) out)) (sym (lt-ltb (length out) paperTagLength h))
 
 -- an output of the tag's own length
-pub tag-exact : (S : Bits) (out : List ℕ) → length out ≡ tagBytes → tagOutput S out ≡ tagOf S
+pub tag-exact : (S : Bits) (out : List ℕ) → length out ≡ paperTagLength → tagOutput S out ≡ tagOf S
 unfolding tagOutput writtenOver tagOf
 tag-exact S out e =
-    let h : length out ≤ length (tagOf S) = omega (arith, bytes-length tagBytes (λ j. keystream final S (640 + j))) in
-    ap (λ (t : Bool). cond t out (writtenOver (tagOf S) out)) (le-ltb (length out) tagBytes (omega arith))
+    let h : length out ≤ length (tagOf S) = omega (arith, bytes-length paperTagLength (λ j. keystream final S (640 + j))) in
+    ap (λ (t : Bool). cond t out (writtenOver (tagOf S) out)) (le-ltb (length out) paperTagLength (omega arith))
     ∙ ap (λ (r : List ℕ). tagOf S ++ r) (drop-of-length-le out h) ∙ append-nil (tagOf S)

@@ -8,7 +8,7 @@ use lib.Dec.{ltb}
 use lib.ListN.{length}
 use Rattle.acorn_model.specs.Bits.{Bits}
 use Rattle.calls.specs.Calls.{_if_else_, writtenOver}
-use Rattle.acorn_model.specs.Stretches.{through, zeros, start, textPiece, textOut, tagOf, tagBytes}
+use Rattle.acorn_model.specs.Stretches.{through, zeros, start, textPiece, textOut, tagOf, paperTagLength}
 use Rattle.acorn_model.specs.Machine.{keyAndNonceRight}
 
 -- A piece of text is run from the state S into an output: S′ is the state and out′ the output after it.
@@ -22,4 +22,4 @@ startState key nonce = through (start key nonce) zeros if keyAndNonceRight key n
 
 -- the output after the tag of the state S before final is written
 unfoldable pub tagOutput : Bits → List ℕ → List ℕ
-tagOutput S out = out if ltb (length out) tagBytes else writtenOver (tagOf S) out
+tagOutput S out = out if ltb (length out) paperTagLength else writtenOver (tagOf S) out

@@ -11,11 +11,10 @@ use lib.ListN.{length}
 use borrow.Author.Tests.{lt-ltb, le-ltb, eq-eqb, ne-eqb}
 use Rattle.acorn_model.specs.Bits.{Bits, _⊕_, bitsIn, bytes}
 use Rattle.acorn_model.specs.Step.{StepInput, run, keystreamBit}
-use Rattle.acorn_model.specs.Stretches.{Stretch, tagBytes, tagBits, startBit, start, dataPiece, textPiece, final, inputs, through, keystream, textOut, tagOf, zeros, afterData, beforeFinal}
+use Rattle.acorn_model.specs.Stretches.{Stretch, paperTagLength, tagBits, startBit, start, dataPiece, textPiece, final, inputs, through, keystream, textOut, tagOf, zeros, afterData, beforeFinal}
 use Rattle.acorn_model.specs.Paper.{_from_to_, Schedule, inputAt, stateAt, ksAt, textBitOut, tagBit, ciphertext, tag, decrypted, newTag}
-use Rattle.calls.proofs.Choices.{lt-or-ge}
+use Rattle.calls.proofs.Choices.{lt-or-ge, if-below, if-past}
 use Rattle.acorn_model.proofs.Bytes.{bytes-same}
-use Rattle.calls.proofs.Choices.{if-below, if-past}
 use Rattle.acorn_model.proofs.Runs.{input-same, run-none, run-on}
 use Rattle.acorn_model.proofs.Scheduled.{scheduled}
 
@@ -146,10 +145,10 @@ module _ (opening : Bool) (key nonce «data» text : List ℕ) (g : ℕ → Step
       bytes-same (length text) _ _
       (λ j l. ap (λ (S : Bits). bitsIn text j ⊕ keystreamBit S) (sym (in-text j (omega arith))))
 
-  pub tag-of-run : tagOf (beforeFinal opening text D) ≡ bytes tagBytes (λ j. keystreamBit (run g (1792 + (A + P + 1279 - tagBits + 1 + j)) zeros))
+  pub tag-of-run : tagOf (beforeFinal opening text D) ≡ bytes paperTagLength (λ j. keystreamBit (run g (1792 + (A + P + 1279 - tagBits + 1 + j)) zeros))
   unfolding tagOf keystream
   tag-of-run =
-      bytes-same tagBytes _ _
+      bytes-same paperTagLength _ _
       (λ j l. let e : 1792 + (A + P + 512 + (768 - tagBits + j)) ≡ 1792 + (A + P + 1279 - tagBits + 1 + j) = omega arith in
       ap keystreamBit (sym (in-final (768 - tagBits + j) (omega arith)) ∙ ap (λ (x : ℕ). run g x zeros) e))
 
@@ -166,7 +165,7 @@ module _ (key nonce «data» : List ℕ) where
     unfolding textBitOut ksAt stateAt
     textBits-agree = text-of-run opening key nonce «data» text (inputAt opening key nonce «data» text) (λ ks j. (opening && ks) ⊕ bitsIn text j) (λ ks j l. refl) follows
 
-    tagBits-agree : tagOf (beforeFinal opening text (afterData key nonce «data»)) ≡ bytes tagBytes (tagBit opening key nonce «data» text)
+    tagBits-agree : tagOf (beforeFinal opening text (afterData key nonce «data»)) ≡ bytes paperTagLength (tagBit opening key nonce «data» text)
     unfolding tagBit ksAt stateAt
     tagBits-agree = tag-of-run opening key nonce «data» text (inputAt opening key nonce «data» text) (λ ks j. (opening && ks) ⊕ bitsIn text j) (λ ks j l. refl) follows
 

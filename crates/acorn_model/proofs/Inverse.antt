@@ -46,7 +46,7 @@ module _ (o : Bool) (S : Bits) (l c : List ℕ) (same-length : length c ≡ leng
       (λ i m. ap (λ (x : Bool). step true false x (run (inputs (textPiece o l)) i S))
       (ap (λ (x : Bool). (not o && keystream (textPiece o l) S i) ⊕ x) (c-is i (omega arith)) ∙ enters o (bitsIn l i) (keystream (textPiece o l) S i)))
 
-  through-back : through (textPiece (not o) c) S ≡ through (textPiece o l) S
+  pub through-back : through (textPiece (not o) c) S ≡ through (textPiece o l) S
   unfolding through
   through-back = ap (λ (n : ℕ). run (inputs (textPiece (not o) c)) (8 * n) S) same-length ∙ run-back (8 * length l) (omega arith)
 
@@ -54,7 +54,7 @@ module _ (o : Bool) (S : Bits) (l c : List ℕ) (same-length : length c ≡ leng
   unfolding keystream
   bit-back j h = ap₂ _⊕_ (c-is j h) (ap keystreamBit (run-back j (omega arith))) ∙ twice (bitsIn l j) (keystream (textPiece o l) S j)
 
-  textOut-back : AreBytes l → textOut (not o) c S ≡ l
+  pub textOut-back : AreBytes l → textOut (not o) c S ≡ l
   unfolding textOut
   textOut-back h =
       ap (λ (n : ℕ). bytes n (λ j. bitsIn c j ⊕ keystream (textPiece (not o) c) S j)) same-length
@@ -87,8 +87,33 @@ module _ (key nonce «data» : List ℕ) where
       rw (← newTag-agrees key nonce «data» (ciphertext key nonce «data» text), ← ciphertext-agrees key nonce «data» text, ← tag-agrees key nonce «data» text)
       (ap (λ (S : Bits). tagOf (through textEnd S)) (through-inverse false text (afterData key nonce «data»)))
 
-  pub tag-decrypted : (cipher : List ℕ) → AreBytes cipher → tag key nonce «data» (decrypted key nonce «data» cipher) ≡ newTag key nonce «data» cipher
-  tag-decrypted cipher h = sym (newTag-ciphertext (decrypted key nonce «data» cipher)) ∙ ap (newTag key nonce «data») (ciphertext-decrypted cipher h)
+  -- whatever the numbers of a ciphertext, it has the bits of what its text is encrypted to
+  pub ciphertext-bits : (cipher : List ℕ) (j : ℕ) → j < 8 * length cipher → bitsIn (ciphertext key nonce «data» (decrypted key nonce «data» cipher)) j ≡ bitsIn cipher j
+  ciphertext-bits cipher j h =
+      let S = afterData key nonce «data» in
+      let e = textOut-length true cipher S in
+      rw (← ciphertext-agrees key nonce «data» (decrypted key nonce «data» cipher), ← decrypted-agrees key nonce «data» cipher)
+      (textOut-bits false (textOut true cipher S) S j (omega arith) ∙ bit-back true S cipher (textOut true cipher S) e (textOut-bits true cipher S) j h)
+
+  pub tag-decrypted : (cipher : List ℕ) → tag key nonce «data» (decrypted key nonce «data» cipher) ≡ newTag key nonce «data» cipher
+  tag-decrypted cipher =
+      rw (← tag-agrees key nonce «data» (decrypted key nonce «data» cipher), ← decrypted-agrees key nonce «data» cipher, ← newTag-agrees key nonce «data» cipher)
+      (ap (λ (S : Bits). tagOf (through textEnd S)) (through-inverse true cipher (afterData key nonce «data»)))
+
+  -- a ciphertext with the bits of what a text of bytes is encrypted to, whatever its numbers, is decrypted to that text, with its tag
+  module _ (text cipher : List ℕ) (same-length : length cipher ≡ length text)
+      (same-bits : (j : ℕ) → j < 8 * length text → bitsIn cipher j ≡ bitsIn (ciphertext key nonce «data» text) j) where
+    with-keystream : (j : ℕ) → j < 8 * length text → bitsIn cipher j ≡ bitsIn text j ⊕ keystream (textPiece false text) (afterData key nonce «data») j
+    with-keystream j h = same-bits j h ∙ (rw (← ciphertext-agrees key nonce «data» text) (textOut-bits false text (afterData key nonce «data») j h))
+
+    pub decrypted-from-bits : AreBytes text → decrypted key nonce «data» cipher ≡ text
+    decrypted-from-bits h = sym (decrypted-agrees key nonce «data» cipher) ∙ textOut-back false (afterData key nonce «data») text cipher same-length with-keystream h
+
+    pub newTag-from-bits : newTag key nonce «data» cipher ≡ tag key nonce «data» text
+    newTag-from-bits =
+        sym (newTag-agrees key nonce «data» cipher)
+        ∙ ap (λ (S : Bits). tagOf (through textEnd S)) (through-back false (afterData key nonce «data») text cipher same-length with-keystream)
+        ∙ tag-agrees key nonce «data» text
 
   pub opens-exactly : (cipher t text : List ℕ) → AreBytes cipher → AreBytes text
       → Opens key nonce «data» cipher t text ↔ ((cipher ≡ ciphertext key nonce «data» text) × (t ≡ tag key nonce «data» text))

@@ -3,14 +3,13 @@ use mathlib.Core.Path.{_≡_, refl, sym, ap, ap₂, _∙_}
 use mathlib.Core.Bool.{Bool, true, false, not, _||_}
 use mathlib.Core.List.{List}
 use mathlib.Core.Logic.{_↔_}
-use Prim.Native.Nat.{ℕ, zero, suc, _+_, _-_, _≤_, _<_}
+use Prim.Native.Nat.{ℕ, _+_, _-_, _≤_, _<_}
 use native.Mathlib.Omega.{arith}
 use lib.Dec.{ltb}
 use lib.ListN.{length, take}
 use lib.Seq.{take-at, length-take-le}
 use borrow.Author.Tests.{eq-eqb, eqb-true, le-ltb, lt-ltb, ltb-false, not-false}
-use Rattle.calls.specs.Calls.{AreBytes}
-use Rattle.calls.specs.Calls.{_if_else_, Reply, refused, done, unlessRefused, writtenOver, Result, resultOf}
+use Rattle.calls.specs.Calls.{AreBytes, _if_else_, Reply, refused, done, unlessRefused, writtenOver, Result, resultOf}
 use Rattle.acorn_model.specs.Machine.{tagLength, byteLimit}
 use Rattle.acorn_model.specs.Message.{cipherPart, sizesWrong, sealed, sealRefusal, sealMessage, tagMatches, opened, tagRefusal, openRefusal, openMessage}
 use Rattle.acorn_model.specs.Laws.{WithinLimits}

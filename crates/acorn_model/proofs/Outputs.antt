@@ -7,7 +7,7 @@ use native.Mathlib.Omega.{arith}
 use lib.ListN.{length, length-append}
 use Rattle.acorn_model.specs.Bits.{Bits}
 use Rattle.calls.specs.Calls.{AreBytes}
-use Rattle.acorn_model.specs.Stretches.{tagBytes, textOut, tagOf}
+use Rattle.acorn_model.specs.Stretches.{paperTagLength, textOut, tagOf}
 use Rattle.acorn_model.specs.Paper.{ciphertext, tag, decrypted, newTag}
 use Rattle.acorn_model.specs.Machine.{tagLength}
 use Rattle.acorn_model.specs.Message.{sealed}
@@ -20,9 +20,9 @@ pub textOut-length : (opening : Bool) (piece : List ℕ) (S : Bits) → length (
 unfolding textOut
 textOut-length opening piece S = bytes-length (length piece) _
 
-pub tagOf-length : (S : Bits) → length (tagOf S) ≡ tagBytes
+pub tagOf-length : (S : Bits) → length (tagOf S) ≡ paperTagLength
 unfolding tagOf
-tagOf-length S = bytes-length tagBytes _
+tagOf-length S = bytes-length paperTagLength _
 
 -- ## The paper
 
@@ -39,17 +39,17 @@ module _ (key nonce «data» : List ℕ) where
   unfolding decrypted
   decrypted-length cipher = bytes-length (length cipher) _
 
-  pub tag-length : (text : List ℕ) → length (tag key nonce «data» text) ≡ tagBytes
+  pub tag-length : (text : List ℕ) → length (tag key nonce «data» text) ≡ paperTagLength
   unfolding tag
-  tag-length text = bytes-length tagBytes _
+  tag-length text = bytes-length paperTagLength _
 
   pub tag-are-bytes : (text : List ℕ) → AreBytes (tag key nonce «data» text)
   unfolding tag
-  tag-are-bytes text = bytes-are-bytes tagBytes _
+  tag-are-bytes text = bytes-are-bytes paperTagLength _
 
-  pub newTag-length : (cipher : List ℕ) → length (newTag key nonce «data» cipher) ≡ tagBytes
+  pub newTag-length : (cipher : List ℕ) → length (newTag key nonce «data» cipher) ≡ paperTagLength
   unfolding newTag
-  newTag-length cipher = bytes-length tagBytes _
+  newTag-length cipher = bytes-length paperTagLength _
 
   -- ## Sealed bytes
 

@@ -5,7 +5,7 @@ use Prim.Native.Nat.{ℕ}
 use native.Mathlib.Omega.{arith}
 use lib.Dec.{eqb}
 use borrow.Author.Tests.{not-false}
-use Rattle.calls.specs.Calls.{_if_else_, unlessRefused}
+use Rattle.calls.specs.Calls.{unlessRefused}
 use Rattle.acorn_model.specs.Machine.{Machine, Call, phaseAllows, sizesRight, overLimit, outputShort, refusal, work, call}
 use Rattle.calls.proofs.Refusals.{link}
 

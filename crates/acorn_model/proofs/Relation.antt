@@ -7,18 +7,17 @@ use Prim.Native.Nat.{ℕ, zero, suc, _+_, _-_, _*_, _≤_, _<_}
 use native.Mathlib.Omega.{arith}
 use lib.ListN.{length}
 use Rattle.acorn_model.specs.Bits.{Bits, _⊕_, bitsIn, bytes}
-use Rattle.calls.specs.Calls.{AreBytes}
 use Rattle.acorn_model.specs.Step.{lfsrUpdate, fbk128, keystreamBit, feedbackBit, step, StepInput, run}
-use Rattle.acorn_model.specs.Stretches.{tagBytes, tagBits, zeros}
+use Rattle.acorn_model.specs.Stretches.{paperTagLength, tagBits, zeros}
 use Rattle.acorn_model.specs.Paper.{mAt, caAt, cbAt, inputAt, stateAt, ksAt, textBitOut, tagBit, ciphertext, tag, decrypted, newTag}
 use Rattle.acorn_model.specs.Laws.{SameState, ByPaper}
-use Rattle.acorn_model.proofs.Bytes.{bytes-length, bytes-same, bits-of-bytes, bytes-of-bits, bytes-are-bytes}
+use Rattle.acorn_model.proofs.Bytes.{bytes-length, bytes-same, bits-of-bytes, bytes-are-bytes}
 use Rattle.acorn_model.proofs.Runs.{run-none, run-next}
 use Rattle.acorn_model.proofs.States.{step-shifts, step-new, step-by-bits, same-keystreamBit, same-step}
 use Rattle.acorn_model.proofs.Scheduled.{scheduled}
 use Rattle.acorn_model.proofs.Agree.{text-of-run, tag-of-run, ciphertext-agrees, tag-agrees}
 use Rattle.acorn_model.proofs.Outputs.{decrypted-length}
-use Rattle.acorn_model.proofs.Inverse.{decrypted-ciphertext, ciphertext-decrypted, newTag-ciphertext, tag-decrypted}
+use Rattle.acorn_model.proofs.Inverse.{ciphertext-bits, tag-decrypted, decrypted-from-bits, newTag-from-bits}
 
 module _ (key nonce «data» : List ℕ) where
   abbrev A : ℕ
@@ -59,21 +58,21 @@ module _ (key nonce «data» : List ℕ) where
         bytes-same (length text) _ _ (λ j l. e .c-is j l ∙ ap₂ _⊕_ (p-is j l) (keystream-bits (1792 + (A + 256 + j)) (omega arith)))
         ∙ sym (text-of-run false key nonce «data» text g (λ ks. p) (λ ks. p-is) (λ ks. e .schedule)) ∙ ciphertext-agrees key nonce «data» text
 
-    only-tag : bytes tagBytes T ≡ tag key nonce «data» text
+    only-tag : bytes paperTagLength T ≡ tag key nonce «data» text
     only-tag =
-        bytes-same tagBytes _ _ (λ j l. e .T-is j l ∙ keystream-bits (1792 + (A + P + 1279 - tagBits + 1 + j)) (omega arith))
+        bytes-same paperTagLength _ _ (λ j l. e .T-is j l ∙ keystream-bits (1792 + (A + P + 1279 - tagBits + 1 + j)) (omega arith))
         ∙ sym (tag-of-run false key nonce «data» text g (λ ks. p) (λ ks. p-is) (λ ks. e .schedule)) ∙ tag-agrees key nonce «data» text
 
   pub sealing-only : (text : List ℕ) (c T : Bits) → ByPaper key nonce «data» (length text) (bitsIn text) c T
-      → (bytes (length text) c ≡ ciphertext key nonce «data» text) × (bytes tagBytes T ≡ tag key nonce «data» text)
+      → (bytes (length text) c ≡ ciphertext key nonce «data» text) × (bytes paperTagLength T ≡ tag key nonce «data» text)
   sealing-only text c T e = (only-ciphertext text (bitsIn text) c T (λ j l. refl) e, only-tag text (bitsIn text) c T (λ j l. refl) e)
 
   -- the plaintext's bytes are a text
-  pub opening-only : (cipher : List ℕ) (p T : Bits) → AreBytes cipher → ByPaper key nonce «data» (length cipher) p (bitsIn cipher) T
-      → (bytes (length cipher) p ≡ decrypted key nonce «data» cipher) × (bytes tagBytes T ≡ newTag key nonce «data» cipher)
-  opening-only cipher p T h e = (
-    sym (ap (decrypted key nonce «data») is-ciphertext ∙ decrypted-ciphertext key nonce «data» text (bytes-are-bytes (length cipher) p)),
-    only-tag text p (bitsIn cipher) T p-is e' ∙ sym (ap (newTag key nonce «data») is-ciphertext ∙ newTag-ciphertext key nonce «data» text),
+  pub opening-only : (cipher : List ℕ) (p T : Bits) → ByPaper key nonce «data» (length cipher) p (bitsIn cipher) T
+      → (bytes (length cipher) p ≡ decrypted key nonce «data» cipher) × (bytes paperTagLength T ≡ newTag key nonce «data» cipher)
+  opening-only cipher p T e = (
+    sym (decrypted-from-bits key nonce «data» text cipher (sym same-length) same-bits (bytes-are-bytes (length cipher) p)),
+    only-tag text p (bitsIn cipher) T p-is e' ∙ sym (newTag-from-bits key nonce «data» text cipher (sym same-length) same-bits),
   )
     where
       text : List ℕ
@@ -88,8 +87,8 @@ module _ (key nonce «data» : List ℕ) where
       p-is : (j : ℕ) → j < 8 * length text → p j ≡ bitsIn text j
       p-is j l = sym (bits-of-bytes (length cipher) p j (omega (arith, same-length)))
 
-      is-ciphertext : cipher ≡ ciphertext key nonce «data» text
-      is-ciphertext = sym (bytes-of-bits cipher h) ∙ ap (λ (n : ℕ). bytes n (bitsIn cipher)) (sym same-length) ∙ only-ciphertext text p (bitsIn cipher) T p-is e'
+      same-bits : (j : ℕ) → j < 8 * length text → bitsIn cipher j ≡ bitsIn (ciphertext key nonce «data» text) j
+      same-bits j l = sym (bits-of-bytes (length text) (bitsIn cipher) j l) ∙ ap (λ (x : List ℕ). bitsIn x j) (only-ciphertext text p (bitsIn cipher) T p-is e')
 
   -- ## The functions are as it says
 
@@ -108,15 +107,33 @@ module _ (key nonce «data» : List ℕ) where
         S-shifts = λ i r j k. ap (λ (R : Bits). R j) (run-next g i zeros) ∙ step-shifts _ _ _ (run g i zeros) j (omega arith) ∙ ap (lfsrUpdate (run g i zeros)) (omega arith);
         S-new = λ i r. ap (λ (R : Bits). R 292) (run-next g i zeros) ∙ step-new _ _ _ (run g i zeros);
         c-is = bits-of-bytes (length text) _;
-        T-is = bits-of-bytes tagBytes _;
+        T-is = bits-of-bytes paperTagLength _;
       }
     where
       g : ℕ → StepInput
       g = inputAt false key nonce «data» text
 
+  -- the relation reads a ciphertext's bits within its length alone
+  same-cipher : (n : ℕ) (p c c′ T : Bits) → ((j : ℕ) → j < 8 * n → c′ j ≡ c j) → ByPaper key nonce «data» n p c T → ByPaper key nonce «data» n p c′ T
+  same-cipher n p c c′ T same e =
+      record {
+        m = e .m;
+        ca = e .ca;
+        cb = e .cb;
+        S = e .S;
+        ks = e .ks;
+        schedule = e .schedule;
+        S-first = e .S-first;
+        ks-is = e .ks-is;
+        S-shifts = e .S-shifts;
+        S-new = e .S-new;
+        c-is = λ i r. same i r ∙ e .c-is i r;
+        T-is = e .T-is;
+      }
+
   -- by sealing what is decrypted
-  pub opening-by-paper : (cipher : List ℕ) → AreBytes cipher
+  pub opening-by-paper : (cipher : List ℕ)
       → ByPaper key nonce «data» (length cipher) (bitsIn (decrypted key nonce «data» cipher)) (bitsIn cipher) (bitsIn (newTag key nonce «data» cipher))
-  opening-by-paper cipher h =
-      rw (ciphertext-decrypted key nonce «data» cipher h, tag-decrypted key nonce «data» cipher h, decrypted-length key nonce «data» cipher)
-      at (sealing-by-paper (decrypted key nonce «data» cipher))
+  opening-by-paper cipher =
+      same-cipher (length cipher) _ _ (bitsIn cipher) _ (λ j l. sym (ciphertext-bits key nonce «data» cipher j l))
+      (rw (tag-decrypted key nonce «data» cipher, decrypted-length key nonce «data» cipher) at (sealing-by-paper (decrypted key nonce «data» cipher)))

@@ -11,8 +11,7 @@ use Rattle.calls.specs.Calls.{_if_else_}
 use Rattle.acorn_model.specs.Step.{_⊕=_and_, lfsrUpdate, ksg128, fbk128, keystreamBit, feedbackBit, step, StepInput, stepOn, run}
 use Rattle.acorn_model.specs.Stretches.{Stretch, inputs, through, keystream, textPiece, textOut, final, tagOf}
 use Rattle.acorn_model.specs.Laws.{SameState, StateBits}
-use Rattle.calls.proofs.Choices.{lt-or-ge}
-use Rattle.calls.proofs.Choices.{if-unequal}
+use Rattle.calls.proofs.Choices.{lt-or-ge, if-unequal}
 
 -- ## One step
 

@@ -6,10 +6,9 @@ use mathlib.Core.Logic.{_↔_}
 use Prim.Native.Nat.{ℕ, suc, _+_, _*_, _≤_, _<_}
 use lib.ListN.{length, take}
 use Rattle.acorn_model.specs.Bits.{Bits, bitsIn, bytes}
-use Rattle.calls.specs.Calls.{AreBytes}
+use Rattle.calls.specs.Calls.{AreBytes, refused, done, writtenOver}
 use Rattle.acorn_model.specs.Paper.{Encrypts, ciphertext, tag, decrypted, newTag, Opens}
-use Rattle.acorn_model.specs.Stretches.{Stretch, tagBytes, textOut, tagOf, through, textEnd, afterData, beforeFinal, textPieces, textPiecesOut, joined, afterDataPieces}
-use Rattle.calls.specs.Calls.{refused, done, writtenOver}
+use Rattle.acorn_model.specs.Stretches.{Stretch, paperTagLength, textOut, tagOf, through, textEnd, afterData, beforeFinal, textPieces, textPiecesOut, joined, afterDataPieces}
 use Rattle.acorn_model.specs.Machine.{Machine, Call, begin, dataCall, sealText, checkText, sealClose, checkClose, keyLength, nonceLength, tagLength, byteLimit, refusal, call}
 use Rattle.acorn_model.specs.Message.{sealed, tagMatches, opened, sealMessage, openMessage}
 
@@ -33,11 +32,11 @@ module _ (key nonce «data» : List ℕ) where
     pub sealing : (text : List ℕ)
         → ByPaper (length text) (bitsIn text) (bitsIn (ciphertext key nonce «data» text)) (bitsIn (tag key nonce «data» text))
     pub sealing-only : (text : List ℕ) (c T : Bits) → ByPaper (length text) (bitsIn text) c T
-        → (bytes (length text) c ≡ ciphertext key nonce «data» text) × (bytes tagBytes T ≡ tag key nonce «data» text)
-    pub opening : (cipher : List ℕ) → AreBytes cipher
+        → (bytes (length text) c ≡ ciphertext key nonce «data» text) × (bytes paperTagLength T ≡ tag key nonce «data» text)
+    pub opening : (cipher : List ℕ)
         → ByPaper (length cipher) (bitsIn (decrypted key nonce «data» cipher)) (bitsIn cipher) (bitsIn (newTag key nonce «data» cipher))
-    pub opening-only : (cipher : List ℕ) (p T : Bits) → AreBytes cipher → ByPaper (length cipher) p (bitsIn cipher) T
-        → (bytes (length cipher) p ≡ decrypted key nonce «data» cipher) × (bytes tagBytes T ≡ newTag key nonce «data» cipher)
+    pub opening-only : (cipher : List ℕ) (p T : Bits) → ByPaper (length cipher) p (bitsIn cipher) T
+        → (bytes (length cipher) p ≡ decrypted key nonce «data» cipher) × (bytes paperTagLength T ≡ newTag key nonce «data» cipher)
 
   -- Opening undoes sealing, and opens exactly when the tag is the one.
   pub record OpeningExact : Type 0 where

@@ -6,8 +6,7 @@ use lib.Dec.{eqb}
 use Rattle.acorn_model.specs.declared.Kind.{Kind}
 use Rattle.acorn_model.specs.declared.Kind.the-variants.{Sealing, Checking}
 use Rattle.acorn_model.specs.declared.Phase.the-variants.{Closed}
-use Rattle.calls.specs.Calls.{_if_else_}
-use Rattle.calls.specs.Calls.{Reply, refused, done, Work}
+use Rattle.calls.specs.Calls.{_if_else_, Reply, refused, done, Work}
 use Rattle.calls.specs.Lists.{Entry, ifAccepted, writtenBy}
 use Rattle.acorn_model.specs.Machine.{Machine, Call, begin, dataCall, sealText, checkText, sealClose, checkClose}
 

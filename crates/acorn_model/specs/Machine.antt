@@ -21,15 +21,35 @@ pub record Counts : Type 0 where
   pub textBytes : ℕ
   pub steps : ℕ
 
+abbrev pub zeroCounts : Counts
+zeroCounts = record { dataBytes = 0; textBytes = 0; steps = 0 }
+
+-- one count is so much, and the others stay
+abbrev pub withDataBytes : ℕ → Counts → Counts
+withDataBytes n counts = record { dataBytes = n; textBytes = counts .textBytes; steps = counts .steps }
+
+abbrev pub withTextBytes : ℕ → Counts → Counts
+withTextBytes n counts = record { dataBytes = counts .dataBytes; textBytes = n; steps = counts .steps }
+
+abbrev pub withSteps : ℕ → Counts → Counts
+withSteps n counts = record { dataBytes = counts .dataBytes; textBytes = counts .textBytes; steps = n }
+
 pub record Machine : Type 0 where
   pub kind : Kind
   pub phase : Phase
   pub state : Bits
   pub counts : Counts
 
+-- another state, or other counts, and the rest stays
+abbrev pub withState : Bits → Machine → Machine
+withState S m = record { kind = m .kind; phase = m .phase; state = S; counts = m .counts }
+
+abbrev pub withCounts : Counts → Machine → Machine
+withCounts counts m = record { kind = m .kind; phase = m .phase; state = m .state; counts = counts }
+
 -- a machine that no call has reached
 unfoldable pub fresh : Kind → Machine
-fresh kind = record { kind = kind; phase = Fresh; state = zeros; counts = record { dataBytes = 0; textBytes = 0; steps = 0 } }
+fresh kind = record { kind = kind; phase = Fresh; state = zeros; counts = zeroCounts }
 
 -- ## Calls
 
@@ -145,37 +165,19 @@ refusal m call =
 
 -- the steps of a stretch are run, and counted
 unfoldable pub runThrough : Stretch → Machine → Machine
-runThrough stretch m =
-    record {
-      kind = m .kind;
-      phase = m .phase;
-      state = through stretch (m .state);
-      counts = record { dataBytes = m .counts .dataBytes; textBytes = m .counts .textBytes; steps = m .counts .steps + stretch .steps };
-    }
+runThrough stretch m = withCounts (withSteps (m .counts .steps + stretch .steps) (m .counts)) (withState (through stretch (m .state)) m)
 
 unfoldable pub enter : Phase → Machine → Machine
 enter phase m = record { kind = m .kind; phase = phase; state = m .state; counts = m .counts }
 
 unfoldable pub cleared : Machine → Machine
-cleared m = record { kind = m .kind; phase = m .phase; state = zeros; counts = m .counts }
+cleared m = withState zeros m
 
 unfoldable pub countData : ℕ → Machine → Machine
-countData n m =
-    record {
-      kind = m .kind;
-      phase = m .phase;
-      state = m .state;
-      counts = record { dataBytes = m .counts .dataBytes + n; textBytes = m .counts .textBytes; steps = m .counts .steps };
-    }
+countData n m = withCounts (withDataBytes (m .counts .dataBytes + n) (m .counts)) m
 
 unfoldable pub countText : ℕ → Machine → Machine
-countText n m =
-    record {
-      kind = m .kind;
-      phase = m .phase;
-      state = m .state;
-      counts = record { dataBytes = m .counts .dataBytes; textBytes = m .counts .textBytes + n; steps = m .counts .steps };
-    }
+countText n m = withCounts (withTextBytes (m .counts .textBytes + n) (m .counts)) m
 
 -- begin: start runs, from all zeros
 unfoldable pub begun : List ℕ → List ℕ → Machine → Machine

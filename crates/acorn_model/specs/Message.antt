@@ -4,9 +4,8 @@ use mathlib.Core.List.{List, _++_}
 use Prim.Native.Nat.{ℕ, _+_, _-_}
 use lib.Dec.{ltb}
 use lib.ListN.{length, take, drop}
-use Rattle.calls.specs.Calls.{_if_else_}
+use Rattle.calls.specs.Calls.{_if_else_, Result, resultOf, accepted, sameBytes}
 use Rattle.acorn_model.specs.Paper.{ciphertext, tag, decrypted, newTag}
-use Rattle.calls.specs.Calls.{Result, resultOf, accepted, sameBytes}
 use Rattle.acorn_model.specs.Machine.{keyAndNonceRight, tagLength, byteLimit}
 
 -- of sealed bytes all are ciphertext but the tag's at the end

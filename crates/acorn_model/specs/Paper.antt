@@ -9,7 +9,7 @@ use lib.ListN.{length}
 use Rattle.acorn_model.specs.Bits.{Bits, _⊕_, bitsIn, bytes}
 use Rattle.calls.specs.Calls.{_if_else_}
 use Rattle.acorn_model.specs.Step.{lfsrUpdate, ksg128, fbk128, StepInput, run, keystreamBit}
-use Rattle.acorn_model.specs.Stretches.{tagBytes, tagBits, zeros}
+use Rattle.acorn_model.specs.Stretches.{paperTagLength, tagBits, zeros}
 
 infix 20 _from_to_
 -- i = a to b
@@ -150,14 +150,14 @@ unfoldable pub ciphertext : List ℕ → List ℕ → List ℕ → List ℕ → 
 ciphertext key iv «data» text = bytes (length text) (textBitOut false key iv «data» text)
 
 unfoldable pub tag : List ℕ → List ℕ → List ℕ → List ℕ → List ℕ
-tag key iv «data» text = bytes tagBytes (tagBit false key iv «data» text)
+tag key iv «data» text = bytes paperTagLength (tagBit false key iv «data» text)
 
 -- 1.3.7: the plaintext, and the newly generated tag, from a ciphertext
 unfoldable pub decrypted : List ℕ → List ℕ → List ℕ → List ℕ → List ℕ
 decrypted key iv «data» cipher = bytes (length cipher) (textBitOut true key iv «data» cipher)
 
 unfoldable pub newTag : List ℕ → List ℕ → List ℕ → List ℕ → List ℕ
-newTag key iv «data» cipher = bytes tagBytes (tagBit true key iv «data» cipher)
+newTag key iv «data» cipher = bytes paperTagLength (tagBit true key iv «data» cipher)
 
 -- a ciphertext and a tag t are opened to a text: t verifies, and the text is what is decrypted
 pub record Opens (key iv «data» cipher t text : List ℕ) : Type 0 where

@@ -10,7 +10,7 @@ use Rattle.acorn_model.specs.declared.Phase.{Phase}
 use Rattle.acorn_model.specs.declared.Phase.the-variants.{Fresh, Data, Text, Closed}
 use Rattle.acorn_model.specs.Stretches.{zeros}
 use Rattle.calls.specs.Calls.{accepted}
-use Rattle.acorn_model.specs.Machine.{Machine, Call, begin, dataCall, sealText, checkText, sealClose, checkClose, refusal}
+use Rattle.acorn_model.specs.Machine.{Machine, zeroCounts, withDataBytes, withTextBytes, Call, begin, dataCall, sealText, checkText, sealClose, checkClose, refusal}
 use Rattle.acorn_model.specs.Message.{sealRefusal, openRefusal}
 
 -- a string of so many bytes
@@ -20,7 +20,7 @@ string n = replicate n 0
 -- a machine of this kind and phase that has taken so many bytes of data and of text
 abbrev pub machineWith : Kind → Phase → ℕ → ℕ → Machine
 machineWith kind phase dataBytes textBytes =
-    record { kind = kind; phase = phase; state = zeros; counts = record { dataBytes = dataBytes; textBytes = textBytes; steps = 0 } }
+    record { kind = kind; phase = phase; state = zeros; counts = withDataBytes dataBytes (withTextBytes textBytes zeroCounts) }
 
 -- a call of such a machine; whole sealing and whole opening, with the lengths of key, nonce, data, text or sealed bytes, and output; and the number
 pub data RefusalCase : Type 0 where

@@ -15,12 +15,12 @@ pub record Stretch : Type 0 where
   pub ca : ℕ → Bool
   pub cb : Bool
 
--- the bits of the tag (the paper's t), and its bytes
-abbrev pub tagBits : ℕ
-tagBits = 128
+-- the bytes of the paper's tag, and its bits (the paper's t)
+abbrev pub paperTagLength : ℕ
+paperTagLength = 16
 
-abbrev pub tagBytes : ℕ
-tagBytes = 16
+abbrev pub tagBits : ℕ
+tagBits = 8 * paperTagLength
 
 -- ## The rows
 
@@ -70,7 +70,7 @@ textOut opening piece S = bytes (length piece) (λ j. bitsIn piece j ⊕ keystre
 
 -- the tag, of the state before final: the last ks bits
 unfoldable pub tagOf : Bits → List ℕ
-tagOf S = bytes tagBytes (λ j. keystream final S (final .steps - tagBits + j))
+tagOf S = bytes paperTagLength (λ j. keystream final S (final .steps - tagBits + j))
 
 -- ## A message
 

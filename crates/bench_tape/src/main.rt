@@ -1,9 +1,9 @@
 // For the benchmark: 400 tapes of 5,000 tickets, written add by add. Prints the steps of the last, and the first byte of its tag.
 use calls::Answer;
 use libc::STDOUT_FILENO;
-use tape::Writer;
 use tape_model::Head;
 use tape_model::Ticket;
+use tape_writer::Writer;
 ghost use mathlib.Core.Path.{_≡_};
 ghost use lib.ListN.{length};
 

@@ -10,7 +10,7 @@ use tape_model::Ticket;
 use tape_model::UnpackedHead;
 use tape_model::UnpackedTicket;
 ghost use mathlib.Core.Path.{_≡_};
-ghost use Rattle.calls.specs.Calls.{answerReply, writtenReply, sentBack};
+ghost use Rattle.calls.specs.Calls.{answerReply, writtenReply, leftUnchanged};
 ghost use Rattle.tape_model.specs.Ticket.{ticketReply, headReply};
 ghost use Rattle.tape_model.specs.Tape.{openedReply};
 ghost use Rattle.tape_model.specs.Reader.{nextReply};
@@ -126,9 +126,9 @@ pub fn answered(answer: Answer) -> HtAnswer
     }
 }
 
-// Whether a call was sent back, and so changed nothing: a wrong tag (7) closes.
-pub fn sent_back(answer: Answer) -> bool
-    ensures { λ r. ⌜ r ≡ sentBack (answerReply answer) ⌝ }
+// Whether a refused call has left its session or writer as it was: a wrong tag (7) closes a session.
+pub fn left_unchanged(answer: Answer) -> bool
+    ensures { λ r. ⌜ r ≡ leftUnchanged (answerReply answer) ⌝ }
 {
     match answer {
         Answer::Refused(n) => n != 7,

@@ -4,8 +4,7 @@ use mathlib.Core.List.{List}
 use Rattle.acorn_model.specs.declared.Kind.{Kind}
 use Rattle.calls.specs.Calls.{Work, Outcome, refusedWith}
 use Rattle.calls.specs.Lists.{Entry}
-use Rattle.acorn_model.specs.Machine.{Machine, fresh, Call, begin, dataCall, sealText, checkText, sealClose, checkClose, outputOf, refusal}
-use Rattle.acorn_model.specs.Machine.{runThrough, enter, cleared, countData, countText, begun, dataTaken, textTaken, textEnded, closed, wrote, work, call}
+use Rattle.acorn_model.specs.Machine.{Machine, fresh, Call, begin, dataCall, sealText, checkText, sealClose, checkClose, outputOf, refusal, runThrough, enter, cleared, countData, countText, begun, dataTaken, textTaken, textEnded, closed, wrote, work, call}
 use Rattle.acorn_model.specs.Lists.{Log, logged, joinLogs, logOf}
 use Rattle.call_lists.specs.MachineLists.{machineAfter, logFrom}
 use Rattle.acorn_model.proofs.Refusals.{passed, never-7}

@@ -14,16 +14,14 @@ use Rattle.acorn_model.specs.declared.Phase.the-variants.{Fresh, Data, Text, Cl
 use Rattle.acorn_model.specs.Bits.{Bits}
 use Rattle.calls.specs.Calls.{_if_else_, Reply, Work}
 use Rattle.acorn_model.specs.Stretches.{through, dataPiece, dataEnd, textPiece, textEnd, final, tagOf}
-use Rattle.acorn_model.specs.Machine.{Counts, Machine, Call, begin, dataCall, sealText, checkText, sealClose, checkClose}
-use Rattle.acorn_model.specs.Machine.{isSealing, isChecking, isFresh, isData, isText, phaseAllows, byteLimit, overLimit}
-use Rattle.acorn_model.specs.Machine.{runThrough, enter, cleared, countData, countText, begun, dataTaken, dataEnded, textTaken, textEnded, closed, wrote, work}
+use Rattle.acorn_model.specs.Machine.{Counts, Machine, Call, begin, dataCall, sealText, checkText, sealClose, checkClose, isSealing, isChecking, isFresh, isData, isText, phaseAllows, byteLimit, overLimit, runThrough, enter, cleared, countData, countText, begun, dataTaken, dataEnded, textTaken, textEnded, closed, wrote, work}
 use Rattle.acorn_model.specs.Lists.{Log, nothing, joinLogs}
 use Rattle.acorn_model.proofs.Pieces.{dataPiece-none, dataPiece-append, textPiece-none}
-use Rattle.call_lists.specs.MachineLists.{endedSteps}
+use Rattle.call_lists.specs.MachineLists.{phaseSteps, endedSteps}
 use Rattle.acorn_model.proofs.Refusals.{Passed}
 use Rattle.call_lists.proofs.Logs.{added}
 use Rattle.call_lists.proofs.ByKind.{state-append, pieceOut, closeOut, rightTag, written-none, written-append, tag-of-state, written-all}
-use Rattle.call_lists.proofs.Reached.{baseSteps, InData, InText, Judged, Reached, in-phase}
+use Rattle.call_lists.proofs.Reached.{InData, InText, Judged, Reached, in-phase}
 
 only-fresh : (p : Phase) → isFresh p ≡ true → p ≡ Fresh
 only-fresh Fresh e = refl
@@ -45,7 +43,7 @@ module _ (m : Machine) (log : Log) (r : Reached m log) where
   begin-kept key nonce h =
       let p : m .phase ≡ Fresh = only-fresh (m .phase) h in
       let e : log ≡ nothing = in-phase m log Fresh p r in
-      let base : baseSteps (m .phase) ≡ 0 = ap baseSteps p in
+      let base : phaseSteps (m .phase) ≡ 0 = ap phaseSteps p in
       simp append-nil (record {
         dataBytes = r .dataBytes;
         textBytes = r .textBytes;

@@ -13,10 +13,10 @@ use Rattle.calls.specs.Calls.{Reply, refused, done, Work, sameBytes}
 use Rattle.acorn_model.specs.Machine.{Call}
 use Rattle.acorn_model.specs.Lists.{Arguments, Log, SameTags, Alike}
 use Rattle.calls.proofs.SameBytes.{same-bytes-refl, same-bytes-true}
-use Rattle.call_lists.specs.MachineLists.{machineAfter, logFrom, endedSteps, MachineLists}
+use Rattle.call_lists.specs.MachineLists.{machineAfter, logFrom, phaseSteps, endedSteps, MachineLists}
 use Rattle.call_lists.proofs.Logs.{goodOr7}
 use Rattle.call_lists.proofs.ByKind.{rightTag, allWritten}
-use Rattle.call_lists.proofs.Reached.{baseSteps, Means, Judged, InClosed}
+use Rattle.call_lists.proofs.Reached.{Means, Judged, InClosed}
 use Rattle.call_lists.proofs.After.{reached-after, kind-after}
 
 -- ## One ended list
@@ -26,7 +26,7 @@ module _ (kind : Kind) (calls : List Call) (c : machineAfter kind calls .phase �
   ended-after = subst₂ (λ (p : Phase) (k : Kind). Means p k (machineAfter kind calls .state) (logFrom kind calls)) c (kind-after kind calls) (reached-after kind calls .means)
 
   pub steps-after : machineAfter kind calls .counts .steps ≡ endedSteps (logFrom kind calls)
-  steps-after = omega (arith, reached-after kind calls .steps, ap baseSteps c)
+  steps-after = omega (arith, reached-after kind calls .steps, ap phaseSteps c)
 
 -- a list is of one element alone
 same-one : {A : Type 0} (l : List A) (a b : A) → l ≡ (a ∷ []) → l ≡ (b ∷ []) → a ≡ b
@@ -82,6 +82,7 @@ module _ (kind : Kind) (a b : Log) (s : Alike kind a b) where
 pub machine-lists : MachineLists
 machine-lists = record {
   taken = λ kind calls. let r = reached-after kind calls in (r .dataBytes, r .dataFits, r .textBytes, r .textFits);
+  steps = λ kind calls. reached-after kind calls .steps;
   counted = steps-after;
   began = λ kind calls c. (ended-after kind calls c .arguments, ended-after kind calls c .begins);
   wrote = λ calls a c h. by-arguments Sealing (logFrom Sealing calls) a h (ended-after Sealing calls c) .0;

@@ -1,7 +1,7 @@
 -- The one-step machine that a list of calls has led to, by what the list amounts to.
 use mathlib.Core.Path.{_≡_, refl, subst}
 use mathlib.Core.List.{List, [], _∷_}
-use Prim.Native.Nat.{ℕ, _+_, _*_, _^_, _≤_, _<_}
+use Prim.Native.Nat.{ℕ, _+_, _^_, _≤_, _<_}
 use native.Mathlib.Omega.{arith}
 use lib.ListN.{length}
 use Rattle.acorn_model.specs.declared.Kind.{Kind}
@@ -13,16 +13,9 @@ use Rattle.acorn_model.specs.Stretches.{through, start, dataPiece, zeros}
 use Rattle.calls.specs.Calls.{Reply, Work, sameBytes}
 use Rattle.acorn_model.specs.Machine.{Machine, fresh, byteLimit}
 use Rattle.acorn_model.specs.Lists.{Arguments, Log, nothing}
-use Rattle.call_lists.specs.MachineLists.{endedSteps}
+use Rattle.call_lists.specs.MachineLists.{phaseSteps, byteSteps, endedSteps}
 use Rattle.call_lists.proofs.Logs.{goodOr7}
 use Rattle.call_lists.proofs.ByKind.{textState, textWritten, rightTag, allWritten}
-
--- the steps of the stretches that a machine in this phase has run, data and text apart
-abbrev pub baseSteps : Phase → ℕ
-baseSteps Fresh = 0
-baseSteps Data = 1792
-baseSteps Text = 2048
-baseSteps Closed = 3072
 
 -- ## By phase
 
@@ -68,7 +61,7 @@ pub record Reached (m : Machine) (log : Log) : Type 0 where
   pub textBytes : m .counts .textBytes ≡ length (log .text)
   pub dataFits : length (log .«data») ≤ byteLimit
   pub textFits : length (log .text) ≤ byteLimit
-  pub steps : m .counts .steps ≡ baseSteps (m .phase) + 8 * (length (log .«data») + length (log .text))
+  pub steps : m .counts .steps ≡ phaseSteps (m .phase) + byteSteps log
   pub means : Means (m .phase) (m .kind) (m .state) log
 
 -- what that is in a phase that is known
@@ -79,7 +72,7 @@ pub fresh-reached : (kind : Kind) → Reached (fresh kind) nothing
 unfolding fresh nothing
 fresh-reached kind = record { dataBytes = refl; textBytes = refl; dataFits = omega arith; textFits = omega arith; steps = refl; means = refl }
 
-base-most : (p : Phase) → baseSteps p ≤ 3072
+base-most : (p : Phase) → phaseSteps p ≤ 3072
 base-most Fresh = omega arith
 base-most Data = omega arith
 base-most Text = omega arith

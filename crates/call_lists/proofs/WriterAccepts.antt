@@ -10,16 +10,13 @@ use borrow.Author.Tests.{leb-false, le-ltb}
 use Rattle.acorn_model.specs.declared.Kind.the-variants.{Sealing}
 use Rattle.calls.specs.Calls.{done, Work, writtenOver, Outcome}
 use Rattle.calls.specs.Lists.{handedOn}
-use Rattle.acorn_model.specs.Machine.{Machine, fresh, Call, begin, dataCall, sealText, sealClose, isData, isText, isSealing, keyLength, byteLimit}
-use Rattle.acorn_model.specs.Machine.{phaseAllows, sizesRight, overLimit, outputShort, runThrough, enter, cleared, countData, begun, dataTaken, answered, wrote, call}
-use Rattle.acorn_model.specs.Machine.{work as machineWork}
+use Rattle.acorn_model.specs.Machine.{Machine, fresh, Call, begin, dataCall, sealText, sealClose, isData, isText, isSealing, keyLength, byteLimit, phaseAllows, sizesRight, overLimit, outputShort, runThrough, enter, cleared, countData, begun, dataTaken, answered, wrote, call, work as machineWork}
 use Rattle.tape_model.specs.declared.Head.{Head}
 use Rattle.tape_model.specs.declared.WriterPhase.{WriterPhase}
 use Rattle.tape_model.specs.declared.WriterPhase.the-variants.{Fresh, Open, Closed}
 use Rattle.tape_model.specs.Ticket.{headLength, packTicket, packHead}
 use Rattle.tape_model.specs.Tape.{ticketLimit, nonceOf}
-use Rattle.tape_model.specs.Writer.{PlainWriter, WriterCall, start, add, finish, isFresh, isOpen, keyRight, tapeFull, onAnswer, passedOn, started, work}
-use Rattle.tape_model.specs.Writer.{phaseAllows as writerAllows, outputShort as writerShort}
+use Rattle.tape_model.specs.Writer.{PlainWriter, WriterCall, start, add, finish, isFresh, isOpen, keyRight, tapeFull, onAnswer, passedOn, started, work, phaseAllows as writerAllows, outputShort as writerShort}
 use Rattle.tape_model.specs.WriterLists.{WriterLog}
 use Rattle.acorn_model.proofs.Refusals.{Passed, works}
 use Rattle.tape_model.proofs.Refusals.{WriterPassed}

@@ -1,4 +1,4 @@
--- Every tape is written: start, an add for each of at most 5,000 valid tickets and finish are accepted throughout. The 5,001st ticket is not.
+-- Every tape is written: start, an add for each of at most 5,000 tickets that may be written and finish are accepted throughout. The 5,001st ticket is not.
 use mathlib.Core.Path.{_≡_, refl, sym, ap, _∙_, subst}
 use mathlib.Core.Bool.{true}
 use mathlib.Core.List.{List, [], _∷_, _++_}
@@ -8,8 +8,7 @@ use lib.ListN.{length}
 use borrow.Author.Tests.{le-ltb, lt-leb, eq-eqb}
 use Rattle.calls.specs.Calls.{done, Work, Outcome}
 use Rattle.calls.specs.Lists.{entries, handedOn, ifAccepted, AllAccepted}
-use Rattle.acorn_model.specs.Machine.{keyLength, answered, wrote}
-use Rattle.acorn_model.specs.Machine.{work as machineWork}
+use Rattle.acorn_model.specs.Machine.{keyLength, answered, wrote, work as machineWork}
 use Rattle.tape_model.specs.declared.Ticket.{Ticket}
 use Rattle.tape_model.specs.declared.Head.{Head}
 use Rattle.tape_model.specs.declared.WriterPhase.the-variants.{Open, Closed}
@@ -17,7 +16,7 @@ use Rattle.tape_model.specs.Ticket.{ticketLength, headLength, headRule}
 use Rattle.tape_model.specs.Tape.{tapeTagLength, ticketLimit, tapeOf}
 use Rattle.tape_model.specs.Writer.{PlainWriter, freshWriter, WriterCall, start, add, finish, phaseAllows, keyRight, headRight, ticketRight, tapeFull, outputShort, writerCall}
 use Rattle.tape_model.specs.WriterLists.{Started, startOf, ticketsOf, writerLog}
-use Rattle.tape_model.specs.Laws.{Valid}
+use Rattle.tape_model.specs.Laws.{Writable}
 use Rattle.call_lists.specs.WriterLists.{writerLogFrom, TapeOutputs, RoomFor, adds, tapeCalls, EveryTapeWritten}
 use Rattle.tape_model.proofs.Refusals.{WriterPassed}
 use Rattle.call_lists.proofs.WriterAccepts.{comesTo}
@@ -50,7 +49,7 @@ first w c cs ss ts a h p e rest =
     (sym (comes w c h p)) (((a, e), rest .0), rest .1, rw e (ap (_++_ (startOf c)) (rest .2)), rw e (ap (_++_ (ticketsOf c)) (rest .3)))
 
 -- from an open writer with room for the tickets left
-from-open : (w : PlainWriter) (ts : List Ticket) (outs : ℕ → List ℕ) (out : List ℕ) → HasRun w → w .phase ≡ Open → Valid ts → w .tickets + length ts ≤ ticketLimit
+from-open : (w : PlainWriter) (ts : List Ticket) (outs : ℕ → List ℕ) (out : List ℕ) → HasRun w → w .phase ≡ Open → Writable ts → w .tickets + length ts ≤ ticketLimit
     → ((i : ℕ) → i < length ts → ticketLength ≤ length (outs i)) → tapeTagLength ≤ length out → Comes w (adds ts outs ++ (finish out ∷ [])) [] ts
 unfolding entries handedOn writerLog startOf ticketsOf phaseAllows keyRight headRight ticketRight tapeFull outputShort machineWork wrote answered
 from-open w [] outs out h o v l rooms room =
@@ -70,7 +69,7 @@ from-open w (t ∷ ts) outs out h o v l rooms room =
     first w c (adds ts (λ i. outs (suc i)) ++ (finish out ∷ [])) [] ts _ h p refl rest
 
 from-fresh : (key : List ℕ) (head : Head) (ts : List Ticket) (outs : TapeOutputs)
-    → length key ≡ keyLength → headRule head ≡ true → Valid ts → length ts ≤ ticketLimit → RoomFor (length ts) outs
+    → length key ≡ keyLength → headRule head ≡ true → Writable ts → length ts ≤ ticketLimit → RoomFor (length ts) outs
     → Comes freshWriter (tapeCalls key head ts outs) (record { key = key; head = head } ∷ []) ts
 unfolding entries handedOn writerLog startOf ticketsOf freshWriter phaseAllows keyRight headRight ticketRight tapeFull outputShort
 from-fresh key head ts outs k r v l room =

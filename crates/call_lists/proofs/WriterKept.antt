@@ -8,9 +8,7 @@ use borrow.Author.Tests.{leb-false}
 use Rattle.acorn_model.specs.declared.Kind.the-variants.{Sealing}
 use Rattle.calls.specs.Calls.{done, Work, Outcome, refusedWith}
 use Rattle.calls.specs.Lists.{Entry, writtenBy}
-use Rattle.acorn_model.specs.Machine.{fresh, Call, sealText, sealClose}
-use Rattle.acorn_model.specs.Machine.{runThrough, enter, countData, begun, dataTaken, textTaken, closed, answered, wrote}
-use Rattle.acorn_model.specs.Machine.{work as machineWork}
+use Rattle.acorn_model.specs.Machine.{fresh, Call, sealText, sealClose, runThrough, enter, countData, begun, dataTaken, textTaken, closed, answered, wrote, work as machineWork}
 use Rattle.acorn_model.specs.Lists.{Log, nothing, logged, joinLogs}
 use Rattle.tape_model.specs.declared.Ticket.{Ticket}
 use Rattle.tape_model.specs.declared.WriterPhase.{WriterPhase}
@@ -82,7 +80,7 @@ module _ (w : PlainWriter) (log : WriterLog) (r : WriterReached w log) where
       rw e (record {
         below = _;
         ran = ran-on (begunMachine key head) (beginOf key head ∷ []) _ (ran-on (fresh Sealing) [] nothing ran-fresh (beginOf key head) _ (q .1) refl) (dataOf key head) _ (q .2) refl;
-        written = rw (append-nil (packHead head), ← head-length head) (take-over (packHead head) out);
+        written = simp append-nil (rw (← head-length head) (take-over (packHead head) out));
         tickets = r .tickets ∙ ap (λ (l : WriterLog). length (l .tickets)) e;
         fits = r .fits;
         means = (refl, record { started = record { key = key; head = head }; starts = refl; begins = refl; «data» = refl; text = refl });

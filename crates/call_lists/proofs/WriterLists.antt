@@ -1,8 +1,9 @@
 -- The statements of specs/WriterLists.antt, proved from what a list leads to.
 use mathlib.Core.Path.{_≡_, sym, ap, ap₂, _∙_, subst}
-use mathlib.Core.List.{List, [], _++_}
-use Prim.Native.Nat.{ℕ}
+use mathlib.Core.List.{List, [], _++_, append-nil}
+use Prim.Native.Nat.{ℕ, _≤_}
 use native.Mathlib.Omega.{arith}
+use lib.ListN.{length}
 use Rattle.acorn_model.specs.declared.Kind.the-variants.{Sealing}
 use Rattle.acorn_model.specs.declared.Phase.{Phase}
 use Rattle.acorn_model.specs.declared.Phase.the-variants.{Closed as MachineClosed}
@@ -17,15 +18,16 @@ use Rattle.tape_model.specs.Ticket.{packHead}
 use Rattle.tape_model.specs.Tape.{nonceOf, tapeOf}
 use Rattle.tape_model.specs.Writer.{PlainWriter, freshWriter, WriterCall, start, refusal, outputOf, work, writerCall}
 use Rattle.call_lists.specs.MachineLists.{logFrom}
-use Rattle.tape_model.specs.WriterLists.{Started, WriterLog, headsOf}
-use Rattle.call_lists.specs.WriterLists.{writerAfter, writerLogFrom, WriterLists}
+use Rattle.tape_model.specs.WriterLists.{WriterLog, headsOf}
+use Rattle.call_lists.specs.WriterLists.{writerAfter, writerLogFrom, StartsRight, WriterLists}
+use Rattle.tape_model.proofs.Tickets.{all-writable-valid}
 use Rattle.tape_model.proofs.Tapes.{tapes-come-back}
 use Rattle.calls.proofs.Refusals.{by-number}
 use Rattle.tape_model.proofs.Refusals.{writer-passed}
 use Rattle.call_lists.proofs.MachineLists.{machine-lists}
 use Rattle.call_lists.proofs.WriterReached.{Begun, WriterMeans, WriterReached, writer-in-phase}
 use Rattle.call_lists.proofs.WriterAccepts.{machine-passed, accepted-work}
-use Rattle.call_lists.proofs.WriterValid.{StartsRight, tickets-valid, starts-right}
+use Rattle.call_lists.proofs.WriterValid.{tickets-right, starts-right}
 use Rattle.call_lists.proofs.WriterKept.{writer-reached}
 
 -- a list with no accepted start is that of a fresh writer
@@ -33,6 +35,12 @@ none-written : (phase : WriterPhase) (below : Phase) (log : WriterLog) (l : Log)
 none-written Fresh below log l e h = ap (λ (x : WriterLog). x .written) e
 none-written Open below log l m h = let s = m .1 .starts in cc
 none-written Closed below log l m h = let s = m .1 .starts in cc
+
+-- a started writer was started once
+started-once : (phase : WriterPhase) (below : Phase) (log : WriterLog) (l : Log) → WriterMeans phase below log l → length (log .starts) ≤ 1
+started-once Fresh below log l e = rw e (omega arith)
+started-once Open below log l m = rw (m .1 .starts) (omega arith)
+started-once Closed below log l m = rw (m .1 .starts) (omega arith)
 
 module _ (w : PlainWriter) (log : WriterLog) (r : WriterReached w log) where
   -- a finished writer's machine has ended: its bytes are those of the sealed tickets
@@ -42,10 +50,11 @@ module _ (w : PlainWriter) (log : WriterLog) (r : WriterReached w log) where
       let e : r .below ≡ logFrom Sealing (log .machineCalls) = r .ran .log-is in
       let ended = ap (λ (m : Machine). m .phase) (sym (r .ran .machine)) ∙ c in
       let sealedBytes = machine-lists .wrote (log .machineCalls) _ ended (ap (λ (l : Log). l .begins) (sym e) ∙ b .begins) in
-      r .written ∙ ap₂ (λ (ss : List Started) (l : List ℕ). headsOf ss ++ l) (b .starts)
-      (ap (λ (l : Log). l .written) e ∙ sealedBytes
+      let text =
+      ap (λ (l : Log). l .written) e ∙ sealedBytes
       ∙ ap₂ (sealed (b .started .key) (nonceOf (packHead (b .started .head))))
-      (ap (λ (l : Log). l .«data») (sym e) ∙ b .«data») (ap (λ (l : Log). l .text) (sym e) ∙ b .text))
+      (ap (λ (l : Log). l .«data») (sym e) ∙ b .«data») (ap (λ (l : Log). l .text) (sym e) ∙ b .text) in
+      r .written ∙ ap₂ _++_ (ap headsOf (b .starts) ∙ append-nil (packHead (b .started .head))) text
 
   start-answers : (key out : List ℕ) (head : Head) (a : Work) → writerCall w (start key head out) .answer ≡ done a → a ≡ record { bytes = 9; steps = 1864 }
   unfolding writerCall refusedWith
@@ -62,6 +71,9 @@ pub writer-lists : WriterLists
 writer-lists = record {
   machine = λ calls. writer-reached calls .ran .machine;
   accepts = λ calls. writer-reached calls .ran .accepts;
+  starts-right = starts-right freshWriter;
+  tickets-right = tickets-right freshWriter;
+  once = λ calls. started-once (writerAfter calls .phase) (writerAfter calls .machine .phase) (writerLogFrom calls) (writer-reached calls .below) (writer-reached calls .means);
   written = λ calls.
       let r = writer-reached calls in
       r .written ∙ ap (λ (l : Log). headsOf (writerLogFrom calls .starts) ++ l .written) (r .ran .log-is);
@@ -75,7 +87,7 @@ writer-lists = record {
         m .1 .started,
         m .1 .starts,
         tape-written (writerAfter calls) (writerLogFrom calls) r (m .1) (m .0),
-        tapes-come-back (m .1 .started .key) (m .1 .started .head) (writerLogFrom calls .tickets) (right .0) (right .1) (tickets-valid freshWriter calls)
+        tapes-come-back (m .1 .started .key) (m .1 .started .head) (writerLogFrom calls .tickets) (right .0) (right .1) (all-writable-valid (writerLogFrom calls .tickets) (tickets-right freshWriter calls))
             (omega (arith, r .tickets, r .fits)),
       );
   start-answers = λ calls key out head a. start-answers (writerAfter calls) (writerLogFrom calls) (writer-reached calls) key out head a;

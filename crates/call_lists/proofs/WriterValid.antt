@@ -10,17 +10,12 @@ use Rattle.calls.specs.Calls.{Reply, refused, done, Work, Outcome, refusedWith}
 use Rattle.calls.specs.Lists.{entries, ifAccepted}
 use Rattle.acorn_model.specs.Machine.{keyLength}
 use Rattle.tape_model.specs.declared.Ticket.{Ticket}
-use Rattle.tape_model.specs.Ticket.{headRule}
 use Rattle.tape_model.specs.Writer.{PlainWriter, WriterCall, start, add, finish, outputOf, keyRight, headRight, ticketRight, refusal, work, writerCall}
 use Rattle.tape_model.specs.WriterLists.{Started, startOf, ticketsOf, writerLog}
-use Rattle.tape_model.specs.Laws.{Valid}
+use Rattle.tape_model.specs.Laws.{Writable}
+use Rattle.call_lists.specs.WriterLists.{StartsRight}
 use Rattle.calls.proofs.Refusals.{by-number}
 use Rattle.tape_model.proofs.Refusals.{WriterPassed, writer-passed}
-
--- a key of 16 bytes, and a head in its ranges
-abbrev pub StartsRight : List Started → Type 0
-StartsRight [] = Unit {0}
-StartsRight (s ∷ ss) = (length (s .key) ≡ keyLength) × (headRule (s .head) ≡ true) × StartsRight ss
 
 -- an accepted call passed every test
 accepted-passed : (w : PlainWriter) (c : WriterCall) (a : Work) → writerCall w c .answer ≡ done a → WriterPassed w c
@@ -29,7 +24,7 @@ accepted-passed w c a =
     by-number (λ (o : Outcome PlainWriter Work). o .answer ≡ done a → WriterPassed w c) (refusal w c) (work w c) (refusedWith (refusal w c) w (outputOf c))
     (λ n h. writer-passed w c n) (λ n h. let z : _≡_ {A = ℕ} 0 1 = cc in absurd (omega arith))
 
-ticket-right : (c : WriterCall) (ts : List Ticket) → ticketRight c ≡ true → Valid ts → Valid (ticketsOf c ++ ts)
+ticket-right : (c : WriterCall) (ts : List Ticket) → ticketRight c ≡ true → Writable ts → Writable (ticketsOf c ++ ts)
 unfolding ticketRight ticketsOf
 ticket-right (start key head out) ts h v = v
 ticket-right (add ticket out) ts h v = (h, v)
@@ -41,12 +36,12 @@ start-right (start key head out) ss k h v = (eqb-true (length key) keyLength k, 
 start-right (add ticket out) ss k h v = v
 start-right (finish out) ss k h v = v
 
-pub tickets-valid : (w : PlainWriter) (calls : List WriterCall) → Valid (writerLog (entries writerCall w calls) .tickets)
+pub tickets-right : (w : PlainWriter) (calls : List WriterCall) → Writable (writerLog (entries writerCall w calls) .tickets)
 unfolding entries writerLog
-tickets-valid w [] = tt
-tickets-valid w (c ∷ cs) = by-answer (writerCall w c .answer) (λ a e. accepted-passed w c a e .ticket) _ (tickets-valid (writerCall w c .next) cs)
+tickets-right w [] = tt
+tickets-right w (c ∷ cs) = by-answer (writerCall w c .answer) (λ a e. accepted-passed w c a e .ticket) _ (tickets-right (writerCall w c .next) cs)
   where
-    by-answer : (r : Reply Work) → ((a : Work) → r ≡ done a → ticketRight c ≡ true) → (ts : List Ticket) → Valid ts → Valid (ifAccepted r (ticketsOf c) ++ ts)
+    by-answer : (r : Reply Work) → ((a : Work) → r ≡ done a → ticketRight c ≡ true) → (ts : List Ticket) → Writable ts → Writable (ifAccepted r (ticketsOf c) ++ ts)
     by-answer (refused n) p ts v = v
     by-answer (done a) p ts v = ticket-right c ts (p a refl) v
 

@@ -7,6 +7,8 @@ use Prim.Native.Nat.{ℕ, _+_, _*_, _≤_}
 use lib.ListN.{length}
 use Rattle.acorn_model.specs.declared.Kind.{Kind}
 use Rattle.acorn_model.specs.declared.Kind.the-variants.{Sealing, Checking}
+use Rattle.acorn_model.specs.declared.Phase.{Phase}
+use Rattle.acorn_model.specs.declared.Phase.the-variants.{Fresh, Data, Text, Closed}
 use Rattle.acorn_model.specs.Paper.{newTag}
 use Rattle.calls.specs.Calls.{refused, done}
 use Rattle.calls.specs.Lists.{entries, handedOn}
@@ -22,15 +24,29 @@ module _ (kind : Kind) (calls : List Call) where
   abbrev pub logFrom : Log
   logFrom = logOf (entries call (fresh kind) calls)
 
+-- the steps of the stretches that a session in this phase has run, data and text apart
+abbrev pub phaseSteps : Phase → ℕ
+phaseSteps Fresh = 0
+phaseSteps Data = 1792
+phaseSteps Text = 2048
+phaseSteps Closed = 3072
+
+-- the steps of the data and text taken: 8 for each byte
+abbrev pub byteSteps : Log → ℕ
+byteSteps log = 8 * (length (log .«data») + length (log .text))
+
 -- the steps of an ended session
 abbrev pub endedSteps : Log → ℕ
-endedSteps log = 3072 + 8 * (length (log .«data») + length (log .text))
+endedSteps log = phaseSteps Closed + byteSteps log
 
 pub record MachineLists : Type 0 where
   -- it has counted the bytes of data and of text taken, each at most 65,536
   pub taken : (kind : Kind) (calls : List Call)
       → (machineAfter kind calls .counts .dataBytes ≡ length (logFrom kind calls .«data»)) × (length (logFrom kind calls .«data») ≤ byteLimit)
       × (machineAfter kind calls .counts .textBytes ≡ length (logFrom kind calls .text)) × (length (logFrom kind calls .text) ≤ byteLimit)
+  -- in every phase the count is that of the stretches run and of the bytes taken
+  pub steps : (kind : Kind) (calls : List Call)
+      → machineAfter kind calls .counts .steps ≡ phaseSteps (machineAfter kind calls .phase) + byteSteps (logFrom kind calls)
   -- once a close has ended the session, tag good or not, the count is 3,072 plus 8 for each byte of data and text taken
   pub counted : (kind : Kind) (calls : List Call) → Ended (machineAfter kind calls)
       → machineAfter kind calls .counts .steps ≡ endedSteps (logFrom kind calls)

@@ -16,7 +16,7 @@ use Rattle.tape_model.specs.Ticket.{ticketLength, headLength, headRule}
 use Rattle.tape_model.specs.Tape.{tapeTagLength, ticketLimit, tapeOf}
 use Rattle.tape_model.specs.Writer.{PlainWriter, freshWriter, WriterCall, start, add, finish, writerCall}
 use Rattle.tape_model.specs.WriterLists.{Started, WriterLog, writerLog, headsOf}
-use Rattle.tape_model.specs.Laws.{Valid, TapeLaws}
+use Rattle.tape_model.specs.Laws.{Writable, TapeLaws}
 
 module _ (calls : List WriterCall) where
   abbrev pub writerAfter : PlainWriter
@@ -25,11 +25,20 @@ module _ (calls : List WriterCall) where
   abbrev pub writerLogFrom : WriterLog
   writerLogFrom = writerLog (entries writerCall freshWriter calls)
 
+-- every start has a key of 16 bytes and a head in its ranges
+abbrev pub StartsRight : List Started → Type 0
+StartsRight [] = Unit {0}
+StartsRight (s ∷ ss) = (length (s .key) ≡ keyLength) × (headRule (s .head) ≡ true) × StartsRight ss
+
 pub record WriterLists : Type 0 where
   -- the writer's machine is the one-step machine after the calls that the accepted calls make of it, and it accepts each of them
   pub machine : (calls : List WriterCall) → writerAfter calls .machine ≡ handedOn call (fresh Sealing) (writerLogFrom calls .machineCalls)
   pub accepts : (calls : List WriterCall) → AllAccepted (entries call (fresh Sealing) (writerLogFrom calls .machineCalls))
-  -- the bytes written are the accepted head's nine and then the one-step machine's
+  -- what it accepts is as the rules say; and it accepts one start at most
+  pub starts-right : (calls : List WriterCall) → StartsRight (writerLogFrom calls .starts)
+  pub tickets-right : (calls : List WriterCall) → Writable (writerLogFrom calls .tickets)
+  pub once : (calls : List WriterCall) → length (writerLogFrom calls .starts) ≤ 1
+  -- the bytes written are the nine of every accepted head and then the one-step machine's
   pub written : (calls : List WriterCall)
       → writerLogFrom calls .written ≡ headsOf (writerLogFrom calls .starts) ++ logOf (entries call (fresh Sealing) (writerLogFrom calls .machineCalls)) .written
   -- with no accepted start there are none
@@ -67,8 +76,8 @@ adds (t ∷ ts) outs = add t (outs 0) ∷ adds ts (λ i. outs (suc i))
 abbrev pub tapeCalls : List ℕ → Head → List Ticket → TapeOutputs → List WriterCall
 tapeCalls key head ts outs = start key head (outs .head) ∷ (adds ts (outs .ticket) ++ (finish (outs .tag) ∷ []))
 
--- for every key of 16 bytes, head in its ranges and at most 5,000 valid tickets, with outputs long enough, each of these calls is accepted: the
--- writer is finished, was started with that key and head, was given those tickets and has written their tape
+-- for every key of 16 bytes, head in its ranges and at most 5,000 tickets that may be written, with outputs long enough, each of these calls is
+-- accepted: the writer is finished, was started with that key and head, was given those tickets and has written their tape
 pub record WriterEvery (key : List ℕ) (head : Head) (ts : List Ticket) (outs : TapeOutputs) : Type 0 where
   pub accepted : AllAccepted (entries writerCall freshWriter (tapeCalls key head ts outs))
   pub closed : writerAfter (tapeCalls key head ts outs) .phase ≡ Closed
@@ -78,4 +87,4 @@ pub record WriterEvery (key : List ℕ) (head : Head) (ts : List Ticket) (outs :
 
 abbrev pub EveryTapeWritten : Type 0
 EveryTapeWritten = (key : List ℕ) (head : Head) (ts : List Ticket) (outs : TapeOutputs)
-    → length key ≡ keyLength → headRule head ≡ true → Valid ts → length ts ≤ ticketLimit → RoomFor (length ts) outs → WriterEvery key head ts outs
+    → length key ≡ keyLength → headRule head ≡ true → Writable ts → length ts ≤ ticketLimit → RoomFor (length ts) outs → WriterEvery key head ts outs

@@ -35,6 +35,10 @@ unfoldable pub writtenReply : Written → Reply ℕ
 writtenReply (NotWritten n) = refused n
 writtenReply (WrittenBytes n) = done n
 
+abbrev pub isRefused : {A : Type 0} → Reply A → Bool
+isRefused (refused n) = true
+isRefused (done a) = false
+
 -- ## Refusals
 
 -- No number applies: the call is accepted. A chain `1 if .. else 5 if .. else accepted` gives the first that applies, in the order that the
@@ -47,10 +51,14 @@ unfoldable pub unlessRefused : {A : Type 0} → ℕ → A → A → A
 unlessRefused zero work refusal = work
 unlessRefused (suc n) work refusal = refusal
 
--- whether a call was sent back, and so changed nothing: a wrong tag (7) closes
-unfoldable pub sentBack : {A : Type 0} → Reply A → Bool
-sentBack (refused n) = not (eqb n 7)
-sentBack (done a) = false
+-- and the reply: this value is answered, or the number
+abbrev pub replyOf : {A : Type 0} → ℕ → A → Reply A
+replyOf n value = unlessRefused n (done value) (refused n)
+
+-- whether a refused call of a session or a writer has left it as it was: a wrong tag (7) closes a session
+unfoldable pub leftUnchanged : {A : Type 0} → Reply A → Bool
+leftUnchanged (refused n) = not (eqb n 7)
+leftUnchanged (done a) = false
 
 -- ## Strings and outputs
 

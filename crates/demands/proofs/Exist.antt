@@ -1,27 +1,32 @@
 -- Every list of calls can be made, on sessions and on writers: the contracts leave no call without a reply.
-use mathlib.Core.Path.{_≡_, refl, ap}
-use Prim.Native.Nat.{ℕ}
-use Rattle.calls.specs.Calls.{Reply, Work, Outcome, answerReply}
+use mathlib.Core.Path.{refl}
+use mathlib.Core.Bool.{Bool, true, false}
+use Rattle.calls.specs.Calls.{_if_else_, Work, leftUnchanged, Outcome, answerReply, isRefused}
 use Rattle.acorn_model.specs.Machine.{Machine, fresh, call as machineCall}
 use Rattle.tape_model.specs.Writer.{PlainWriter, freshWriter, writerCall}
 use Rattle.session.specs.declared.Reply.{Reply as SessionReply}
 use Rattle.session.specs.Contracts.{machineOf, sessionOutcome, wrappedMachine, wrappedOutcome, Called}
 use Rattle.session.specs.Words.{sessionFor}
-use Rattle.session.proofs.WordsBack.{session-clear, session-stands}
-use Rattle.tape.specs.declared.WriterReply.{WriterReply}
-use Rattle.tape.specs.Contracts.{writerOf, wrappedWriter, wrappedWriterOutcome, WriterCalled}
-use Rattle.tape.specs.Contracts as tape
+use Rattle.session.proofs.WordsBack.{Clear, session-clear, session-stands}
+use Rattle.tape_writer.specs.declared.WriterReply.{WriterReply}
+use Rattle.tape_writer.specs.Contracts.{writerOf, wrappedWriter, wrappedWriterOutcome, WriterCalled}
+use Rattle.tape_writer.specs.Contracts as tape
 use Rattle.demands.specs.Examples.{SessionReplies, WriterReplies, SessionsExist, WritersExist}
 use Rattle.calls.proofs.Made.{calls-made}
 use Rattle.demands.proofs.Standing.{call-clear, answerOf, answers, writer-call-clear, writerFor, writer-stands}
 
 -- ## Sessions
 
+wrapped-clear : (b : Bool) (m : Machine) → Clear m → Clear (m if b else wrappedMachine m)
+unfolding wrappedMachine
+wrapped-clear true m h = h
+wrapped-clear false m h = h
+
 pub session-replies : SessionReplies
-unfolding sessionOutcome wrappedOutcome wrappedMachine
+unfolding sessionOutcome wrappedOutcome
 session-replies s c =
     let o : Outcome Machine Work = wrappedOutcome (machineCall (machineOf s) c) in
-    let next = session-stands (o .next) (call-clear (machineOf s) c (session-clear s)) in
+    let next = session-stands (o .next) (wrapped-clear (leftUnchanged (machineCall (machineOf s) c .answer)) _ (call-clear (machineOf s) c (session-clear s))) in
     let answer = answers (o .answer) in
     (record { answer = answerOf (o .answer); session = sessionFor (o .next) }, o .out, λ i. record { next = next i; answer = answer i; out = o .out })
 
@@ -33,11 +38,16 @@ sessions-exist kind cs =
 
 -- ## Writers
 
+wrapped-writer-clear : (b : Bool) (w : PlainWriter) → Clear (w .machine) → Clear ((w if b else wrappedWriter w) .machine)
+unfolding wrappedWriter wrappedMachine
+wrapped-writer-clear true w h = h
+wrapped-writer-clear false w h = h
+
 pub writer-replies : WriterReplies
-unfolding tape.writerOutcome writerOf wrappedWriterOutcome wrappedWriter wrappedMachine
+unfolding tape.writerOutcome writerOf wrappedWriterOutcome
 writer-replies w c =
     let o : Outcome PlainWriter Work = wrappedWriterOutcome (writerCall (writerOf w) c) in
-    let next = writer-stands (o .next) (writer-call-clear (writerOf w) c (session-clear (w .session))) in
+    let next = writer-stands (o .next) (wrapped-writer-clear (isRefused (writerCall (writerOf w) c .answer)) _ (writer-call-clear (writerOf w) c (session-clear (w .session)))) in
     let answer = answers (o .answer) in
     (record { answer = answerOf (o .answer); writer = writerFor (o .next) }, o .out, λ i. record { next = next i; answer = answer i; out = o .out })
 

@@ -1,167 +1,147 @@
--- Demand 3 on the interface for C, from the contracts of the exports.
-use mathlib.Core.Path.{_≡_, refl, sym, ap, _∙_}
-use mathlib.Core.Bool.{Bool, true, false}
+-- Demand 2 on the interface for C: whole messages from the demands on the library's own calls, and tapes from the writer's lists by way of opening to
+-- readings.
+use mathlib.Core.Path.{_≡_, refl, sym, ap, _∙_, subst}
+use mathlib.Core.Bool.{true}
 use mathlib.Core.List.{List, [], _∷_}
-use Prim.Native.Nat.{ℕ}
-use native.Mathlib.Omega.{arith}
-use borrow.Author.Tests.{ne-eqb}
-use Rattle.acorn_model.specs.declared.Kind.{Kind}
-use Rattle.calls.specs.Calls.{_if_else_, Reply, refused, done, Work, Outcome, sameBytes, refusedWith, sentBack}
-use Rattle.acorn_model.specs.Stretches.{tagOf}
-use Rattle.calls.specs.Lists.{Entry, callsOf, entries, handedOn, CallsMade, none, call as made}
-use Rattle.acorn_model.specs.Machine.{Machine, Call, begin, dataCall, sealText, checkText, sealClose, checkClose, fresh, outputOf, refusal, textEnded, closed, answered, wrote, verdict, work, call}
-use Rattle.calls.proofs.Refusals.{by-number}
-use Rattle.tape_model.specs.Writer.{PlainWriter, WriterCall, start, add, finish, freshWriter, onAnswer, passedOn, started, writerCall}
-use Rattle.tape_model.specs.Writer as plain
-use Rattle.call_lists.proofs.WriterRuns as writers
-use Rattle.session.specs.Contracts.{wrappedOutcome}
-use Rattle.session.specs.Words.{machineIn, wordsFor}
-use Rattle.session.proofs.Wrapping.{call-within}
-use Rattle.session.proofs.WordsBack.{Clear, words-stand}
-use Rattle.tape.specs.Contracts.{wrappedWriterOutcome}
-use Rattle.tape.specs.Words.{plainWriterIn, writerWordsFor}
-use Rattle.tape.proofs.WriterBack.{writer-words-stand}
-use Rattle.c_answers.specs.Answers.{answerNumbers}
-use Rattle.haul_tape.specs.Contracts.{wordsAfter, Seen, SessionSeen, WriterSeen}
-use Rattle.demands.specs.Exports.{Exported, replyIn, SessionWords, WriterWords, ExportDemand}
-use Rattle.demands.proofs.Sessions.{HasRun, runs-on, has-run-fresh, run-small}
-use Rattle.demands.proofs.Writers.{call-within-writer}
-use Rattle.demands.proofs.Standing.{call-clear, writer-call-clear}
-use Rattle.calls.proofs.Made.{calls-made}
+use Prim.Native.Nat.{ℕ, _+_, _*_, _≤_}
+use lib.ListN.{length, take}
+use lib.Seq.{take-at}
+use borrow.Author.Tests.{le-ltb}
+use Rattle.calls.specs.Calls.{Reply, refused, done, writtenOver, resultOf, writtenReply}
+use Rattle.calls.specs.Lists.{entries, AllAccepted}
+use Rattle.calls.proofs.Results.{result-written}
+use Rattle.acorn_model.specs.Machine.{keyLength}
+use Rattle.acorn_model.specs.Message.{openRefusal}
+use Rattle.tape_model.specs.declared.Ticket.{Ticket}
+use Rattle.tape_model.specs.declared.Head.{Head}
+use Rattle.tape_model.specs.Ticket.{ticketLength, packTicket, packTicketInto, unpackTicket, headLength, headRule, packHead, packHeadInto, unpackHead}
+use Rattle.tape_model.specs.Tape.{ticketLimit, tapeOf, plainTickets, openTape}
+use Rattle.tape_model.specs.Writer.{WriterCall, freshWriter, writerCall}
+use Rattle.tape_model.specs.WriterLists.{writerLog}
+use Rattle.tape_model.specs.Reader.{atEnd}
+use Rattle.tape_model.specs.Laws.{Valid}
+use Rattle.tape_model.proofs.Tickets.{ticket-length, head-length, all-writable-valid, ticket-laws}
+use Rattle.tape_model.proofs.Tapes.{tapes-come-back}
+use Rattle.call_lists.specs.WriterLists.{StartsRight}
+use Rattle.call_lists.proofs.WriterEvery.{every-tape-written}
+use Rattle.reader.proofs.Reading.{Ahead, tickets-ahead, opened-tickets}
+use Rattle.c_answers.specs.declared.HtWritten.{HtWritten}
+use Rattle.c_answers.specs.declared.HtReading.{HtReading}
+use Rattle.c_answers.specs.Answers.{noTicket, writtenNumbers, openedNumbers, ticketNumbers, headNumbers, readingNumbers}
+use Rattle.haul_tape.specs.Contracts.{ResultSeen, readNumbers}
+use Rattle.demands.specs.Refusals.{AnsweredBy}
+use Rattle.demands.specs.Exports.{MessageExports, PackingExports, ReadCalls, noReading, aReading, readInTurn, ExportsComeBack, TapeExports, ExportDemand}
+use Rattle.demands.proofs.Refusals.{refusal-demand}
+use Rattle.demands.proofs.Messages.{message-demand}
+use Rattle.demands.proofs.MessageExamples.{message-examples}
+use Rattle.demands.proofs.ExportLists.{as-plain, list-exports}
+use Rattle.demands.proofs.ExportNumbers.{told-is, number-exports}
 
--- ## Any kind of words
+-- ## Whole messages
 
--- the reply that comes back from its numbers: any but a refusal with 0
-abbrev Told : Reply Work → Type 0
-Told a = replyIn (answerNumbers a) ≡ a
+-- an answer that goes by a number, told as done with x, is that
+told-done : (n : ℕ) (a : Reply ℕ) (x : ℕ) → AnsweredBy n a → writtenNumbers a ≡ record { refused = 0; bytes = x } → a ≡ done x
+unfolding writtenNumbers
+told-done n (refused k) x h e =
+    let z : n ≡ 0 = sym (told-is n (refused k) h) ∙ ap (λ (r : HtWritten). r .refused) e in
+    let d = h .accepts .1 z in cc
+told-done n (done y) x h e = ap done (ap (λ (r : HtWritten). r .bytes) e)
 
-told-refused : (n : ℕ) → (n ≡ 0 → ⊥) → Told (refused n)
-unfolding replyIn answerNumbers
-told-refused n h = rw (ne-eqb n 0 h)
+module _ (key nonce «data» : List ℕ) where
+  message-exports : MessageExports key nonce «data»
+  unfolding writtenNumbers
+  message-exports =
+      record {
+        sealing = λ text out after r seen w room c T p.
+            let x = message-examples key nonce «data» .seals text out in
+            let d = message-demand key nonce «data» .sealing text out (x .1) (x .0) (x .2) w room c T p in
+            (seen .0 ∙ (λ i. writtenNumbers (x .2 i .answer)) ∙ ap writtenNumbers (d .0), seen .1 ∙ (λ i. x .2 i .out) ∙ d .1);
+        opening = λ s text out after r hs ht w room seen c T p.
+            let x = message-examples key nonce «data» .opens s out in
+            let d = message-demand key nonce «data» .opening s text out (x .1) (x .0) hs ht w room (x .2) c T p in
+            let number = refusal-demand .opening key nonce «data» s out (x .1) (x .0) (x .2) .number in
+            let told : r ≡ writtenNumbers (writtenReply (x .0)) = seen .0 ∙ (λ i. writtenNumbers (x .2 i .answer)) in
+            let left : after ≡ x .1 = seen .1 ∙ (λ i. x .2 i .out) in (
+              λ a. d .0 (told-done (openRefusal key nonce «data» s out) (writtenReply (x .0)) (length text) number (sym told ∙ a .0), sym left ∙ a .1),
+              λ b. let e = d .1 b in (told ∙ ap writtenNumbers (e .0), left ∙ e .1),
+            );
+        seven = λ s out after r seen k n d t l room m.
+            let x = message-examples key nonce «data» .opens s out in
+            let e = message-demand key nonce «data» .seven s out (x .1) (x .0) (x .2) k n d t l room m in
+            (seen .0 ∙ (λ i. writtenNumbers (x .2 i .answer)) ∙ ap writtenNumbers (e .0), seen .1 ∙ (λ i. x .2 i .out) ∙ e .1);
+      }
 
-told-done : (w : Work) → Told (done w)
-unfolding replyIn answerNumbers
-told-done w = refl
+-- ## Tickets and heads
 
-module _ {C M : Type 0} (wordsOf : M → List ℕ) (modelIn : List ℕ → M) (wrapped : Outcome M Work → Outcome M Work) (step : M → C → Outcome M Work) (Inv : M → Type 0)
-    (stand : (m : M) → Inv m → modelIn (wordsOf m) ≡ m) (within : (m : M) (c : C) → Inv m → wrapped (step m c) ≡ step m c) (kept : (m : M) (c : C) → Inv m → Inv (step m c .next))
-    (stays : (m : M) (c : C) → sentBack (step m c .answer) ≡ true → step m c .next ≡ m) (told : (m : M) (c : C) → Told (step m c .answer)) where
-  -- the words after a call are those of what it hands on, also where it was sent back
-  stored : (m : M) (c : C) (words : List ℕ) → words ≡ wordsOf m → wordsAfter wordsOf words (step m c) ≡ wordsOf (step m c .next)
-  unfolding wordsAfter
-  stored m c words w = by (sentBack (step m c .answer)) refl
-    where
-      by : (b : Bool) → sentBack (step m c .answer) ≡ b → (words if b else wordsOf (step m c .next)) ≡ wordsOf (step m c .next)
-      by true e = w ∙ ap wordsOf (sym (stays m c e))
-      by false e = refl
+-- what is packed comes back: a string of n bytes that unpacks to `a`, written where no number applies
+packed-back : {A N : Type 0} (numbers : Reply A → N) (unpacked : List ℕ → Reply A) (number n : ℕ) (a : A) (string out after : List ℕ) (w : HtWritten) (r : N)
+    → number ≡ 0 → length string ≡ n → unpacked string ≡ done a → ResultSeen writtenNumbers (resultOf number n string out) w after
+    → r ≡ numbers (unpacked (take n after))
+    → (w ≡ record { refused = 0; bytes = n }) × (after ≡ writtenOver string out) × (r ≡ numbers (done a))
+unfolding writtenNumbers writtenOver
+packed-back numbers unpacked number n a string out after w r none size back seen read =
+    let o = result-written number n string out none in
+    let left = seen .1 ∙ (λ i. o i .out) in
+    (seen .0 ∙ (λ i. writtenNumbers (o i .answer)), left, read ∙ ap (λ l. numbers (unpacked l)) (ap (take n) left ∙ take-at string _ n size) ∙ ap numbers back)
 
-  as-model : (m : M) (words e : List ℕ) (es : List (Entry C Work)) → Inv m → words ≡ wordsOf m
-      → CallsMade {R = Exported} (λ r. r .words) (λ r. replyIn (r .answer)) (λ before c r out. Seen wordsOf before (wrapped (step (modelIn before) c)) (r .words) (r .answer) out) words es e
-      → (es ≡ entries step m (callsOf es)) × (e ≡ wordsOf (handedOn step m (callsOf es)))
-  unfolding entries handedOn callsOf
-  as-model m words e _ i w none = (refl, w)
-  as-model m words e _ i w (made {c = c} {out = out} {es = es} r h p) =
-      let o : wrapped (step (modelIn words) c) ≡ step m c = ap (λ (x : M). wrapped (step x c)) (ap modelIn w ∙ stand m i) ∙ within m c i in
-      let after : r .words ≡ wordsOf (step m c .next) = h .0 ∙ ap (wordsAfter wordsOf words) o ∙ stored m c words w in
-      let answer : replyIn (r .answer) ≡ step m c .answer = ap replyIn (h .1) ∙ ap (λ (x : Outcome M Work). replyIn (answerNumbers (x .answer))) o ∙ told m c in
-      let output : out ≡ step m c .out = h .2 ∙ ap (λ (x : Outcome M Work). x .out) o in
-      let rest = as-model (step m c .next) (r .words) e es (kept m c i) after p in
-      (λ j. record { call = c; answer = answer j; out = output j } ∷ rest .0 j, rest .1)
+packing-exports : PackingExports
+unfolding packTicketInto packHeadInto ticketNumbers headNumbers
+packing-exports =
+    record {
+      tickets = λ t out after w r rule room. packed-back ticketNumbers unpackTicket _ ticketLength t (packTicket t) out after w r
+          (rw (rule, le-ltb (length out) ticketLength room) refl) (ticket-length t) (ticket-laws .tickets .unpack-pack t rule);
+      heads = λ h out after w r rule room. packed-back headNumbers unpackHead _ headLength h (packHead h) out after w r
+          (rw (rule, le-ltb (length out) headLength room) refl) (head-length h) (ticket-laws .heads .unpack-pack h rule);
+    }
 
--- ## Sessions
+-- ## Tapes
 
--- what holds of an outcome: it was sent back and changed nothing, or it was not sent back; and its answer is told
-record Passes {M : Type 0} (m : M) (o : Outcome M Work) : Type 0 where
-  stays : sentBack (o .answer) ≡ true → o .next ≡ m
-  told : Told (o .answer)
+-- readings of bytes before which these tickets lie
+read-in-turn : (s : List ℕ) (p : ℕ) (ts : List Ticket) (rs : List HtReading) → Ahead s (done atEnd) p ts → ReadCalls s p rs → rs ≡ readInTurn ts p (length rs)
+unfolding readingNumbers
+read-in-turn s p ts _ a noReading = refl
+read-in-turn s p [] _ a (aReading {readings = rs} r seen rest) =
+    let e : r ≡ record { refused = 0; «at_end» = 1; position = p; ticket = noTicket } = seen ∙ ap readNumbers a in
+    let on : r .position ≡ p = ap (λ (h : HtReading). h .position) e in
+    let later = read-in-turn s (r .position) [] rs (subst (λ (q : ℕ). Ahead s (done atEnd) q []) (sym on) a) rest in
+    λ i. e i ∷ (later ∙ ap (λ (q : ℕ). readInTurn [] q (length rs)) on) i
+read-in-turn s p (t ∷ ts) _ a (aReading {readings = rs} r seen rest) =
+    let e : r ≡ record { refused = 0; «at_end» = 0; position = p + 1; ticket = t } = seen ∙ ap readNumbers (a .0) in
+    let on : r .position ≡ p + 1 = ap (λ (h : HtReading). h .position) e in
+    let later = read-in-turn s (r .position) ts rs (subst (λ (q : ℕ). Ahead s (done atEnd) q ts) (sym on) (a .1)) rest in
+    λ i. e i ∷ (later ∙ ap (λ (q : ℕ). readInTurn ts q (length rs)) on) i
 
-false-true : _≡_ {A = Bool} false true → ⊥
-false-true e = let z : _≡_ {A = ℕ} 0 1 = ap (λ (b : Bool). 1 if b else 0) e in omega arith
+-- a tape of a key of 16 bytes, a head in its ranges and at most 5,000 valid tickets
+come-back : (key : List ℕ) (head : Head) (ts : List Ticket) (written : List ℕ) → length key ≡ keyLength → headRule head ≡ true → Valid ts → length ts ≤ ticketLimit
+    → written ≡ tapeOf key head ts → ExportsComeBack key head ts written
+unfolding openedNumbers
+come-back key head ts written k h v n e =
+    record {
+      is-tape = e;
+      opened = λ out after r fits seen.
+          let p = ap (λ (t : List ℕ). openTape key t out) e ∙ tapes-come-back key head ts k h v n .opens out fits in
+          (seen .0 ∙ (λ i. openedNumbers (p i .answer)), seen .1 ∙ (λ i. p i .out));
+      read = λ out after r fits seen rs calls.
+          let held = ap (λ (l : List ℕ). plainTickets (take (ticketLength * length ts) l)) (seen .1 ∙ ap (λ (t : List ℕ). openTape key t out .out) e)
+          ∙ opened-tickets key head ts k h v n out fits in
+          read-in-turn _ 0 ts rs (tickets-ahead _ ts held) calls;
+    }
 
-unchanged : {M : Type 0} (n : ℕ) (m : M) (out : List ℕ) → (n ≡ 0 → ⊥) → Passes m (refusedWith n m out)
-unfolding refusedWith
-unchanged n m out h = record { stays = λ e. refl; told = told-refused n h }
-
-did : {M : Type 0} (m next : M) (w : Work) (out : List ℕ) → Passes m (record { next = next; answer = done w; out = out })
-unfolding sentBack
-did m next w out = record { stays = λ e. absurd (false-true e); told = told-done w }
-
-judged : (b : Bool) (m : Machine) → Passes m (record { next = closed m; answer = verdict b (closed m); out = [] })
-unfolding verdict answered sentBack
-judged true m = did m (closed m) _ []
-judged false m = record { stays = λ e. absurd (false-true e); told = told-refused 7 (λ e. omega arith) }
-
-worked : (m : Machine) (c : Call) → Passes m (work m c)
-unfolding work wrote answered
-worked m (begin key nonce) = did m _ _ _
-worked m (dataCall piece) = did m _ _ _
-worked m (sealText piece out) = did m _ _ _
-worked m (checkText piece) = did m _ _ _
-worked m (sealClose out) = did m _ _ _
-worked m (checkClose tag) = judged (sameBytes tag (tagOf (textEnded m .state))) m
-
-called : (m : Machine) (c : Call) → Passes m (call m c)
-unfolding call
-called m c = by-number (Passes m) (refusal m c) (work m c) (refusedWith (refusal m c) m (outputOf c)) (λ e. worked m c) (λ h. unchanged (refusal m c) m (outputOf c) h)
-
--- a machine that calls led to, with nothing above its 293 bits
-abbrev ReachedClear : Machine → Type 0
-ReachedClear m = HasRun m × Clear m
-
-sessions : (kind : Kind) (es : List (Entry Call Work)) (e : List ℕ) → SessionWords kind es e
-    → (es ≡ entries call (fresh kind) (callsOf es)) × (e ≡ wordsFor (handedOn call (fresh kind) (callsOf es)))
-unfolding fresh
-sessions kind es e p =
-    as-model wordsFor machineIn wrappedOutcome call ReachedClear
-    (λ m i. words-stand m (i .1))
-    (λ m c i. call-within m c (run-small _ (runs-on m c (i .0))))
-    (λ m c i. (runs-on m c (i .0), call-clear m c (i .1)))
-    (λ m c. called m c .stays) (λ m c. called m c .told) (fresh kind) _ e es (has-run-fresh kind, λ q. refl) refl p
-
--- ## Writers
-
-onAnswer-passes : (a : Reply Work) (goOn : Work → Outcome PlainWriter Work) (w : PlainWriter) (out : List ℕ) → Told a → ((x : Work) → Passes w (goOn x)) → Passes w (onAnswer a goOn w out)
-unfolding onAnswer refusedWith
-onAnswer-passes (refused n) goOn w out t g = record { stays = λ e. refl; told = t }
-onAnswer-passes (done x) goOn w out t g = g x
-
-writer-worked : (w : PlainWriter) (c : WriterCall) → Passes w (plain.work w c)
-unfolding plain.work started passedOn
-writer-worked w (start key head out) = onAnswer-passes _ _ w out (called _ _ .told) (λ x. onAnswer-passes _ _ w out (called _ _ .told) (λ y. did w _ _ _))
-writer-worked w (add ticket out) = onAnswer-passes _ _ w out (called _ _ .told) (λ x. did w _ _ _)
-writer-worked w (finish out) = onAnswer-passes _ _ w out (called _ _ .told) (λ x. did w _ _ _)
-
-writer-called : (w : PlainWriter) (c : WriterCall) → Passes w (writerCall w c)
-unfolding writerCall
-writer-called w c =
-    by-number (Passes w) (plain.refusal w c) (plain.work w c) (refusedWith (plain.refusal w c) w (plain.outputOf c)) (λ e. writer-worked w c) (λ h. unchanged (plain.refusal w c) w (plain.outputOf c) h)
-
-abbrev WriterReached : PlainWriter → Type 0
-WriterReached w = writers.HasRun w × Clear (w .machine)
-
-of-writers : (es : List (Entry WriterCall Work)) (e : List ℕ) → WriterWords es e
-    → (es ≡ entries writerCall freshWriter (callsOf es)) × (e ≡ writerWordsFor (handedOn writerCall freshWriter (callsOf es)))
-unfolding freshWriter fresh
-of-writers es e p =
-    as-model writerWordsFor plainWriterIn wrappedWriterOutcome writerCall WriterReached
-    (λ w i. writer-words-stand w (i .1))
-    (λ w c i. call-within-writer w c (i .0))
-    (λ w c i. (writers.runs-on w c (i .0), writer-call-clear w c (i .1)))
-    (λ w c. writer-called w c .stays) (λ w c. writer-called w c .told) freshWriter _ e es (writers.fresh-has-run, λ q. refl) refl p
-
--- ## Every list can be made: the contracts are equations
+tape-exports : TapeExports
+tape-exports =
+    record {
+      closed = λ es e p c.
+          let f = list-exports .writers es e p .0 in
+          let t = f .tape c in
+          let right = subst StartsRight (t .1) (f .right .0) in
+          (t .0, t .1, come-back (t .0 .key) (t .0 .head) _ _ (right .0) (right .1) (all-writable-valid (writerLog es .tickets) (f .right .1)) (f .tickets .1) (t .2));
+      tickets = λ key head ts k h w n outs room es e p cs.
+          let every = every-tape-written key head ts outs k h w n room in
+          let same = as-plain es e p .0 ∙ ap (entries writerCall freshWriter) cs in (
+            subst (AllAccepted {C = WriterCall}) (sym same) (every .accepted),
+            come-back key head ts _ k h (all-writable-valid ts w) n (ap (λ x. writerLog x .written) same ∙ every .written),
+          );
+    }
 
 pub export-demand : ExportDemand
-export-demand =
-    record {
-      sessions = sessions;
-      writers = of-writers;
-      sessions-exist = λ kind cs.
-          calls-made (λ (r : Exported). r .words) (λ (r : Exported). replyIn (r .answer)) (λ words c r out. SessionSeen words c (r .words) (r .answer) out)
-          (λ words c. let o : Outcome Machine Work = wrappedOutcome (call (machineIn words) c) in
-          (record { words = wordsAfter wordsFor words o; answer = answerNumbers (o .answer) }, o .out, (refl, refl, refl))) (wordsFor (fresh kind)) cs;
-      writers-exist = λ cs.
-          calls-made (λ (r : Exported). r .words) (λ (r : Exported). replyIn (r .answer)) (λ words c r out. WriterSeen words c (r .words) (r .answer) out)
-          (λ words c. let o : Outcome PlainWriter Work = wrappedWriterOutcome (writerCall (plainWriterIn words) c) in
-          (record { words = wordsAfter writerWordsFor words o; answer = answerNumbers (o .answer) }, o .out, (refl, refl, refl))) (writerWordsFor freshWriter) cs;
-    }
+export-demand = record { lists = list-exports; numbers = number-exports; messages = message-exports; packing = packing-exports; tapes = tape-exports }

@@ -7,10 +7,14 @@ pub mod Tied
 pub mod TiedExports
 pub mod Standing
 pub mod Exist
+pub mod SessionFacts
 pub mod AllPass
 pub mod SessionExamples
 pub mod WriterExamples
 pub mod MessageExamples
 pub mod Examples
 pub mod Tapes
+pub mod TapesOpen
+pub mod ExportLists
+pub mod ExportNumbers
 pub mod Exports

@@ -20,7 +20,7 @@ use Rattle.tape_model.specs.declared.OpenedTape.the-variants.{Refused as TapeRe
 use Rattle.tape_model.specs.Ticket.{packHead, unpackHead}
 use Rattle.tape_model.specs.Tape.{isTicketsLength, Totals, isTapeLength, openTape, openedReply}
 use Rattle.tape_model.specs.Tape as tape
-use Rattle.demands.specs.Messages.{Seals, OpensTo}
+use Rattle.message.specs.Contracts.{Seals, OpensTo}
 use Rattle.demands.specs.Examples.{MessageExamples, OpeningReplies, TapeSeven}
 
 writtenOf : Reply ℕ → Written

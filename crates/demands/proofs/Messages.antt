@@ -34,8 +34,7 @@ module _ (key nonce «data» : List ℕ) where
             let e = sym h ∙ message-laws key nonce «data» .seals text out w room in
             (λ i. e i .answer, (λ i. e i .out) ∙ ap (λ (l : List ℕ). writtenOver l out) (sym (by-paper text c T p)));
         sealable = λ text. (bitsIn (ciphertext key nonce «data» text), bitsIn (tag key nonce «data» text), paper-computed key nonce «data» .sealing text);
-        openable = λ cipher h.
-            (bitsIn (decrypted key nonce «data» cipher), bitsIn (newTag key nonce «data» cipher), paper-computed key nonce «data» .opening cipher h);
+        openable = λ cipher. (bitsIn (decrypted key nonce «data» cipher), bitsIn (newTag key nonce «data» cipher), paper-computed key nonce «data» .opening cipher);
         opening = λ s text out after r hs ht w room h c T p.
             let e = message-laws key nonce «data» .opens-exactly s text out hs ht in (
               λ (a : (writtenReply r ≡ done (length text)) × (after ≡ writtenOver text out)).

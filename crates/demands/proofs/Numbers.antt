@@ -1,10 +1,9 @@
 -- Answers that go by a number.
 use mathlib.Core.Path.{_≡_, refl, sym, subst}
-use mathlib.Core.Bool.{Bool, true, false}
 use mathlib.Core.List.{List}
 use Prim.Native.Nat.{ℕ, zero, suc}
 use native.Mathlib.Omega.{arith}
-use Rattle.calls.specs.Calls.{_if_else_, Reply, refused, done, accepted, unlessRefused, Result, resultOf}
+use Rattle.calls.specs.Calls.{Reply, refused, done, unlessRefused, Result, resultOf, replyOf}
 use Rattle.demands.specs.Refusals.{AnsweredBy, RefusedBy}
 
 pub never : {A : Type 0} {a : A} {n : ℕ} {P : Type 0} → done a ≡ refused n → P
@@ -29,14 +28,14 @@ module _ {A : Type 0} where
   by-cases zero answer h g = let d = h refl in subst (AnsweredBy 0) (sym (d .1)) (accepted-by (d .0))
   by-cases (suc n) answer h g = subst (AnsweredBy (suc n)) (sym (g n refl)) (refused-by n)
 
-  -- a chain of two numbers
-  pub chain : (a b : Bool) (n m : ℕ) (t : A) → AnsweredBy (suc n if a else suc m if b else accepted) (refused (suc n) if a else refused (suc m) if b else done t)
-  chain true b n m t = refused-by n
-  chain false true n m t = refused-by m
-  chain false false n m t = accepted-by t
+  -- a value by a number
+  pub reply-by : (n : ℕ) (value : A) → AnsweredBy n (replyOf n value)
+  unfolding unlessRefused
+  reply-by zero value = accepted-by value
+  reply-by (suc n) value = refused-by n
 
   -- a result by a number
-  result-by : (n : ℕ) (a : A) (written out : List ℕ) → RefusedBy n (resultOf n a written out .answer) out (resultOf n a written out .out)
+  pub result-by : (n : ℕ) (a : A) (written out : List ℕ) → RefusedBy n (resultOf n a written out .answer) out (resultOf n a written out .out)
   unfolding resultOf unlessRefused
   result-by zero a written out = record { number = accepted-by a; unchanged = λ k e. never e }
   result-by (suc n) a written out = record { number = refused-by n; unchanged = λ k e. refl }

@@ -7,21 +7,18 @@ use native.Mathlib.Omega.{arith}
 use lib.Dec.{leb, ltb, eqb}
 use lib.ListN.{length, take, drop, length-drop}
 use lib.Seq.{length-take-le}
-use borrow.Author.Tests.{leb-false, eq-eqb, le-ltb}
-use Rattle.calls.specs.Calls.{_if_else_, Reply, refused, done, Work, Outcome, accepted, sameBytes, answerReply, writtenReply, unlessRefused, refusedWith}
+use borrow.Author.Tests.{leb-false, eq-eqb, ne-eqb, le-ltb}
+use Rattle.calls.specs.Calls.{_if_else_, Reply, refused, done, Work, Outcome, accepted, leftUnchanged, sameBytes, answerReply, writtenReply, unlessRefused, refusedWith, isRefused}
 use Rattle.acorn_model.specs.Stretches.{tagOf}
 use Rattle.acorn_model.specs.declared.Phase.the-variants.{Closed}
-use Rattle.acorn_model.specs.Machine.{Machine, fresh, Call, begin, dataCall, sealText, checkText, sealClose, checkClose, outputOf, keyLength, refusal, wrote, answered, verdict, textEnded, closed, enter, work, call}
-use Rattle.acorn_model.specs.Machine.{work as machineWork}
+use Rattle.acorn_model.specs.Machine.{Machine, Call, begin, dataCall, sealText, checkText, sealClose, checkClose, outputOf, keyLength, refusal, wrote, answered, verdict, textEnded, closed, enter, work, call, work as machineWork}
 use Rattle.acorn_model.specs.Message.{tagMatches}
 use Rattle.acorn_model.specs.Message as message
 use Rattle.tape_model.specs.declared.OpenedTape.{OpenedTape}
 use Rattle.tape_model.specs.declared.WriterPhase.the-variants.{Open}
 use Rattle.tape_model.specs.declared.Ticket.{Ticket}
-use Rattle.tape_model.specs.Format.{widths, inRanges, unpack}
-use Rattle.tape_model.specs.Ticket.{form1, ticketLength, ticketOf, valuesRule, ticketRule, packTicketInto, unpackTicket}
-use Rattle.tape_model.specs.Ticket.{headFormat, headLength, headOf, packHeadInto, unpackHead}
-use Rattle.tape_model.specs.Tape.{ticketLimit, nonceOf, isTicketsLength, isRefused, isTapeLength, headBytes, sealedBytes, ticketCount, openTapeRefusal, openTape, openedReply}
+use Rattle.tape_model.specs.Ticket.{ticketLength, writeRule, packTicketInto, unpackTicketRefusal, unpackTicket, packHeadInto, unpackHeadRefusal, unpackHead}
+use Rattle.tape_model.specs.Tape.{ticketLimit, nonceOf, isTicketsLength, isTapeLength, headBytes, sealedBytes, ticketCount, openTapeRefusal, openTape, openedReply}
 use Rattle.tape_model.specs.Writer.{PlainWriter, WriterCall, start, add, finish, onAnswer, passedOn, started, writerCall}
 use Rattle.tape_model.specs.Writer as plain
 use Rattle.tape_model.specs.Reader as model
@@ -29,23 +26,23 @@ use Rattle.tape_model.specs.Reader.{Reading, atEnd, ReadOutcome, stays, handedO
 use Rattle.acorn_model.proofs.Refusals.{never-7}
 use Rattle.calls.proofs.Refusals.{by-number}
 use Rattle.tape_model.proofs.Refusals.{writer-passed}
+use Rattle.tape_model.proofs.Unpacking.{refused-by-8}
 use Rattle.call_lists.proofs.WriterRuns.{HasRun}
 use Rattle.call_lists.proofs.WriterAccepts.{MachinePassed, machine-passed, comesTo, accepted-work}
 use Rattle.session.specs.declared.Session.{Session}
 use Rattle.session.specs.declared.Reply.{Reply as SessionReply}
-use Rattle.session.specs.Contracts.{machineOf, sessionOutcome, wrapped, wrappedMachine, wrappedReply, wrappedOutcome, Called}
-use Rattle.session.proofs.Wrapping.{within}
-use Rattle.tape.specs.declared.Writer.{Writer}
-use Rattle.tape.specs.declared.WriterReply.{WriterReply}
-use Rattle.tape.specs.Contracts.{writerOf, wrappedWriter, wrappedWriterOutcome, WriterCalled}
-use Rattle.tape.specs.Contracts as tape
+use Rattle.session.specs.Contracts.{machineOf, sessionOutcome, wrappedMachine, wrappedReply, wrappedOutcome, Called}
+use Rattle.tape_writer.specs.declared.Writer.{Writer}
+use Rattle.tape_writer.specs.declared.WriterReply.{WriterReply}
+use Rattle.tape_writer.specs.Contracts.{writerOf, wrappedWriter, wrappedWriterOutcome, WriterCalled}
+use Rattle.tape_writer.specs.Contracts as tape
+use Rattle.tape_opening.specs.Contracts.{OpensTape}
 use Rattle.reader.specs.declared.Reader.{Reader}
 use Rattle.reader.specs.declared.ReaderReply.{ReaderReply}
 use Rattle.reader.specs.Contracts.{readerOf, NextCalled}
 use Rattle.reader.specs.Contracts as reader
-use Rattle.ticket.proofs.Summing.{refused-by-8}
-use Rattle.demands.specs.Refusals.{RefusedBy, AnsweredBy, tagDiffers, sessionNumber, Counts64, SessionRefusals, WriterRefusals, OpensTape, OpeningRefusals, readerNumber, ReaderRefusals, RefusalDemand}
-use Rattle.demands.proofs.Numbers.{never, same-number, accepted-by, refused-by, by-cases, chain, refused-as}
+use Rattle.demands.specs.Refusals.{RefusedBy, AnsweredBy, tagDiffers, sessionNumber, SessionRefusals, WriterRefusals, OpeningRefusals, readerNumber, ReaderRefusals, RefusalDemand}
+use Rattle.demands.proofs.Numbers.{never, same-number, accepted-by, refused-by, by-cases, refused-as, reply-by}
 use Rattle.demands.proofs.Writers.{has-run, writer-demand}
 
 -- counting in 64 bits does not touch a refusal
@@ -53,10 +50,6 @@ still-refused : (a : Reply Work) (n : ℕ) → wrappedReply a ≡ refused n → 
 unfolding wrappedReply
 still-refused (refused k) n e = e
 still-refused (done w) n e = never e
-
-goes-round : (n : ℕ) → Counts64 (wrapped n)
-unfolding wrapped
-goes-round n = omega arith
 
 -- ## The machine
 
@@ -113,22 +106,32 @@ number-call m c = from (refusal m c)
     from zero = work-number m c
     from (suc n) = refused-by n
 
+-- what a call hands on, where it was sent back; and its phase
+kept : (a : Reply Work) (n : ℕ) (m : Machine) → a ≡ refused n → (n ≡ 7 → ⊥) → (m if leftUnchanged a else wrappedMachine m) ≡ m
+unfolding leftUnchanged
+kept a n m e h = rw (e, ne-eqb n 7 h)
+
+same-phase : (b : Bool) (m : Machine) → (m if b else wrappedMachine m) .phase ≡ m .phase
+unfolding wrappedMachine
+same-phase true m = refl
+same-phase false m = refl
+
 session-refusals : (s : Session) (c : Call) (r : SessionReply) (out : List ℕ) (h : Called s c r out) → SessionRefusals s c r out h
-unfolding sessionOutcome wrappedOutcome wrappedReply wrappedMachine
+unfolding sessionOutcome wrappedOutcome
 session-refusals s c r out h =
     let m = machineOf s in
     let answer : answerReply (r .answer) ≡ wrappedReply (call m c .answer) = λ i. h i .answer in
-    let next : machineOf (r .session) ≡ wrappedMachine (call m c .next) = λ i. h i .next in
+    let next : machineOf (r .session) ≡ (call m c .next if leftUnchanged (call m c .answer) else wrappedMachine (call m c .next)) = λ i. h i .next in
     let left : out ≡ call m c .out = λ i. h i .out in
     record {
       number = subst (AnsweredBy (sessionNumber m c)) (sym answer) (number-call m c);
-      unchanged = λ n small e ne.
-          let u = refused-call m c n (still-refused (call m c .answer) n (sym answer ∙ e)) ne in
-          (next ∙ ap wrappedMachine (u .0) ∙ within m small, left ∙ u .1);
+      unchanged = λ n e ne.
+          let f = still-refused (call m c .answer) n (sym answer ∙ e) in
+          let u = refused-call m c n f ne in
+          (next ∙ kept (call m c .answer) n (call m c .next) f ne ∙ u .0, left ∙ u .1);
       seven = λ e.
           let u = seven-call m c (still-refused (call m c .answer) 7 (sym answer ∙ e)) in
-          (ap (λ (x : Machine). x .phase) next ∙ u .0, left ∙ u .1);
-      count = subst (λ (x : Machine). Counts64 (x .counts .steps)) (sym next) (goes-round (call m c .next .counts .steps));
+          (ap (λ (x : Machine). x .phase) next ∙ same-phase (leftUnchanged (call m c .answer)) (call m c .next) ∙ u .0, left ∙ u .1);
     }
 
 -- ## The plain writer
@@ -175,24 +178,27 @@ unfolding wrappedReply
 wrapped-number n (refused k) h = h
 wrapped-number n (done w) h = by-cases n _ (λ e. (_, refl)) (λ k e. never (h .refuses k .1 e))
 
+kept-writer : (a : Reply Work) (n : ℕ) (w : PlainWriter) → a ≡ refused n → (w if isRefused a else wrappedWriter w) ≡ w
+kept-writer a n w e = rw e
+
 writer-refusals : (w : Writer) (c : WriterCall) (r : WriterReply) (out : List ℕ) (h : WriterCalled w c r out) → WriterRefusals w c r out h
-unfolding tape.writerOutcome wrappedWriterOutcome wrappedWriter wrappedReply wrappedMachine
+unfolding tape.writerOutcome wrappedWriterOutcome wrappedReply
 writer-refusals w c r out h =
     let p = writerOf w in
     let answer : answerReply (r .answer) ≡ wrappedReply (writerCall p c .answer) = λ i. h i .answer in
-    let next : writerOf (r .writer) ≡ wrappedWriter (writerCall p c .next) = λ i. h i .next in
+    let next : writerOf (r .writer) ≡ (writerCall p c .next if isRefused (writerCall p c .answer) else wrappedWriter (writerCall p c .next)) = λ i. h i .next in
     let left : out ≡ writerCall p c .out = λ i. h i .out in
     record {
       number = λ n e. answer ∙ ap wrappedReply (writer-number p c n e);
       exactly = λ es l. subst (AnsweredBy (plain.refusal p c)) (sym answer) (wrapped-number (plain.refusal p c) _ (exactly-call p c (has-run es w l)));
-      unchanged = λ n small e.
-          let u = writer-unchanged p c n (still-refused (writerCall p c .answer) n (sym answer ∙ e)) in
-          (next ∙ ap wrappedWriter (u .0) ∙ (λ i. record { machine = within (p .machine) small i; phase = p .phase; tickets = p .tickets }), left ∙ u .1);
-      count = subst (λ (x : PlainWriter). Counts64 (x .machine .counts .steps)) (sym next) (goes-round (writerCall p c .next .machine .counts .steps));
+      unchanged = λ n e.
+          let f = still-refused (writerCall p c .answer) n (sym answer ∙ e) in
+          let u = writer-unchanged p c n f in
+          (next ∙ kept-writer (writerCall p c .answer) n (writerCall p c .next) f ∙ u .0, left ∙ u .1);
     }
 
 -- an open writer with 5,000 tickets sends a further one back
-full : (w : PlainWriter) (t : Ticket) (out : List ℕ) → w .phase ≡ Open → w .tickets ≡ ticketLimit → ticketRule t ≡ true → plain.refusal w (add t out) ≡ 5
+full : (w : PlainWriter) (t : Ticket) (out : List ℕ) → w .phase ≡ Open → w .tickets ≡ ticketLimit → writeRule t ≡ true → plain.refusal w (add t out) ≡ 5
 unfolding plain.refusal plain.phaseAllows plain.keyRight plain.headRight plain.ticketRight plain.tapeFull
 full w t out o n v = rw (o, v, n)
 
@@ -223,7 +229,7 @@ opening-refusals key tape out after r h =
 -- ## Readers
 
 -- what the reader comes to goes by the number, and stays where it is refused
-abbrev Reads : ℕ → model.Reader → ReadOutcome → Type 0
+abbrev pub Reads : ℕ → model.Reader → ReadOutcome → Type 0
 Reads n r o = AnsweredBy n (o .answer) × ((k : ℕ) → o .answer ≡ refused k → o .next ≡ r)
 
 module _ (r : model.Reader) where
@@ -245,7 +251,7 @@ module _ (r : model.Reader) where
       handed (unpackTicket ahead)
       (λ n u. refused-by-8 ahead n (length-take-le ticketLength (drop (ticketLength * r .position) (r .string)) (simp length-drop (omega arith))) u)
 
-  reads : Reads (readerNumber r) r (readNext r)
+  pub reads : Reads (readerNumber r) r (readNext r)
   unfolding readNext
   reads = by-tests (isTicketsLength (length (r .string))) _ refl
 
@@ -268,11 +274,9 @@ unfolding message.sealMessage message.openMessage packTicketInto packHeadInto un
 refusal-demand =
     record {
       sessions = session-refusals;
-      fresh-count = λ s kind e. subst (λ (m : Machine). Counts64 (m .counts .steps)) (sym e) (unfold fresh in omega arith);
-      fresh-writer-count = λ w e. subst (λ (p : PlainWriter). Counts64 (p .machine .counts .steps)) (sym e) (unfold plain.freshWriter fresh in omega arith);
       writers = writer-refusals;
       ticket-5001 = λ es w l o n t out after r v called.
-          writer-refusals w (add t out) r after called .number 4 (full (writerOf w) t out o (writer-demand .tickets es w l .0 ∙ n) v);
+          writer-refusals w (add t out) r after called .number 4 (full (writerOf w) t out o (writer-demand es w l .tickets .0 ∙ n) v);
       sealing = λ key nonce d text out after r h. refused-as _ _ _ out (writtenReply r) after h;
       opening = λ key nonce d s out after r h. refused-as _ _ _ out (writtenReply r) after h;
       openings = opening-refusals;
@@ -285,10 +289,6 @@ refusal-demand =
       readers = reader-refusals;
       packing = λ t out after r h. refused-as _ _ _ out (writtenReply r) after h;
       packing-heads = λ h out after r e. refused-as _ _ _ out (writtenReply r) after e;
-      unpacking = λ string r e.
-          let vs = unpack (widths form1) string in
-          subst (AnsweredBy _) (sym e) (chain (not (eqb (length string) ticketLength)) (not (valuesRule vs)) 1 7 (ticketOf vs));
-      unpacking-heads = λ string r e.
-          let vs = unpack (widths headFormat) string in
-          subst (AnsweredBy _) (sym e) (chain (not (eqb (length string) headLength)) (not (inRanges headFormat vs)) 1 2 (headOf vs));
+      unpacking = λ string r e. subst (AnsweredBy (unpackTicketRefusal string)) (sym e) (reply-by (unpackTicketRefusal string) _);
+      unpacking-heads = λ string r e. subst (AnsweredBy (unpackHeadRefusal string)) (sym e) (reply-by (unpackHeadRefusal string) _);
     }

@@ -1,7 +1,7 @@
 -- The sessions' lists of specs/Examples.antt: what comes of them is computed as far as phases, counts, sizes and answers go, and no step of the
 -- cipher is run.
 use mathlib.Core.Path.{_≡_, refl, sym, ap, _∙_, subst₂}
-use mathlib.Core.Bool.{Bool, true, false, true≢false}
+use mathlib.Core.Bool.{Bool, true, false, not, true≢false}
 use mathlib.Core.List.{List, [], _∷_, _++_, append-assoc}
 use Prim.Native.Nat.{ℕ, zero, suc, _+_, _≤_, _<_}
 use native.Mathlib.Omega.{arith}
@@ -10,21 +10,18 @@ use lib.ListN.{length, length-append, getD, replicate}
 use borrow.Author.Tests.{le-ltb, eq-eqb}
 use Rattle.acorn_model.specs.declared.Kind.{Kind}
 use Rattle.acorn_model.specs.declared.Kind.the-variants.{Sealing, Checking}
-use Rattle.calls.specs.Calls.{AreBytes}
+use Rattle.calls.specs.Calls.{AreBytes, _if_else_, Reply, refused, done, Work, Outcome, accepted, sameBytes, unlessRefused, refusedWith}
 use Rattle.acorn_model.specs.Stretches.{tagOf}
 use Rattle.acorn_model.specs.Paper.{newTag}
-use Rattle.calls.specs.Calls.{Reply, refused, done, Work, sameBytes, unlessRefused, refusedWith}
 use Rattle.calls.specs.Lists.{Entry, entries, handedOn}
-use Rattle.acorn_model.specs.Machine.{tagLength, Machine, Call, begin, dataCall, checkText, checkClose, fresh, call, byteLimit, keyAndNonceRight}
-use Rattle.acorn_model.specs.Machine.{phaseAllows, sizesRight, overLimit, outputShort, refusal}
-use Rattle.acorn_model.specs.Machine.{runThrough, enter, cleared, countData, countText, begun, dataTaken, dataEnded, textTaken, textEnded, closed, answered, wrote, verdict, work}
+use Rattle.acorn_model.specs.Machine.{tagLength, Machine, Call, begin, dataCall, checkText, checkClose, fresh, call, byteLimit, keyAndNonceRight, outputOf, phaseAllows, sizesRight, overLimit, outputShort, refusal, runThrough, enter, cleared, countData, countText, begun, dataTaken, dataEnded, textTaken, textEnded, closed, answered, wrote, verdict, work}
 use Rattle.acorn_model.specs.Laws.{WithinLimits}
 use Rattle.acorn_model.specs.Lists.{Ended, Alike, beginOf, dataOf, textOf, tagsOf, verdictOf, logged, joinLogs, nothing, logOf}
 use Rattle.calls.proofs.SameBytes.{same-bytes-refl, same-bytes-true}
 use Rattle.acorn_model.proofs.Outputs.{newTag-length}
 use Rattle.acorn_model.proofs.Proved.{stretches-agree}
 use Rattle.acorn_model.proofs.Refusals.{Passed, works}
-use Rattle.demands.specs.Examples.{SomeSession, Finish, Answers, EndAlike, sealingCalls, checkingCalls, refusedCalls, cutCalls, cutCheckingCalls, SessionExamples}
+use Rattle.demands.specs.Examples.{SomeSession, Finish, Answers, EndAlike, sealingCalls, checkingCalls, refusedCalls, cutCalls, cutCheckingCalls, cutDataCalls, SessionExamples}
 use Rattle.demands.proofs.Sessions.{session-demand}
 use Rattle.demands.proofs.Exist.{sessions-exist}
 use Rattle.demands.proofs.AllPass.{AllPass, all-same}
@@ -37,7 +34,7 @@ module _ (kind : Kind) (cs : List Call) (P : List (Entry Call Work) → Machine 
   on-session : P (entries call (fresh kind) cs) (handedOn call (fresh kind) cs) → SomeSession kind cs P
   on-session h =
       let x = sessions-exist kind cs in
-      let e = session-demand .as-machine kind (x .0) (x .1) (x .2) in (
+      let e = session-demand .lists kind (x .0) (x .1) (x .2) .as-machine in (
         x .0,
         x .1,
         x .2,
@@ -239,6 +236,43 @@ module _ (key nonce «data» first second tag : List ℕ) (l : WithinLimits key 
         ),
       )
 
+-- ## Data in pieces, with a refused call
+
+-- a call's work where kind and phase allow it, else 1
+workOr1 : Machine → Call → Outcome Machine Work
+workOr1 m c = unlessRefused (1 if not (phaseAllows (m .kind) (m .phase) c) else accepted) (work m c) (refusedWith 1 m (outputOf c))
+
+module _ (key nonce first second text out tagOut : List ℕ) (l : WithinLimits key nonce (first ++ second) text)
+    (room : length text ≤ length out) (roomTag : tagLength ≤ length tagOut) where
+  abbrev dataOne : List Call
+  dataOne = sealingCalls key nonce (first ++ second) text out tagOut
+
+  abbrev dataTwo : List Call
+  dataTwo = cutDataCalls key nonce first second text out tagOut
+
+  two-pass : AllPass call workOr1 (λ m. Unit {0}) (λ m c. call m c ≡ workOr1 m c) (λ m c _ p. p) (λ m c _. tt) (fresh Sealing) dataTwo
+  unfolding workOr1 fresh call refusal unlessRefused refusedWith outputOf work wrote begun dataTaken dataEnded textTaken enter runThrough cleared countData countText phaseAllows sizesRight overLimit outputShort
+  two-pass =
+      let sizes = right-sizes key nonce (first ++ second) text l in
+      let within-first = below (length first) (omega (arith, l .data-limit, length-append first second)) in
+      let within-both = le-ltb byteLimit (0 + length first + 0 + length second) (omega (arith, l .data-limit, length-append first second)) in
+      let within-empty = le-ltb byteLimit (0 + length first + 0) (omega (arith, l .data-limit, length-append first second)) in
+      let text-fits = below (length text) (l .text-limit) in
+      let text-room = le-ltb (length out) (length text) room in
+      let tag-room = le-ltb (length tagOut) tagLength roomTag in
+      (rw sizes, (rw within-first, (rw within-empty, (refl, (rw within-both, (rw (text-fits, text-room), (rw tag-room, tt)))))))
+
+  data-cuts : SomeSession Sealing dataOne (λ es m. Ended m × SomeSession Sealing dataTwo (EndAlike Sealing es))
+  unfolding workOr1 fresh unlessRefused refusedWith outputOf phaseAllows entries handedOn work wrote answered begun dataTaken dataEnded textTaken closed enter runThrough cleared countData countText logOf logged joinLogs nothing beginOf dataOf textOf tagsOf verdictOf
+  data-cuts =
+      let e = all-same call workOr1 (λ m. Unit {0}) (λ m c. call m c ≡ workOr1 m c) (λ m c _ p. p) (λ m c _. tt) (fresh Sealing) dataTwo tt two-pass in
+      on-working Sealing dataOne (λ es m. Ended m × SomeSession Sealing dataTwo (EndAlike Sealing es)) (sealing-passes key nonce (first ++ second) text l out tagOut room roomTag) (
+        refl,
+        on-session Sealing dataTwo (EndAlike Sealing (entries work (fresh Sealing) dataOne))
+            (subst₂ (EndAlike Sealing (entries work (fresh Sealing) dataOne)) (sym (e .0)) (sym (e .1))
+            (refl, record { begins = refl; «data» = append-assoc first second []; text = refl; tags = tt })),
+      )
+
 -- ## Sizes and tags that there are
 
 all-bytes : (n x : ℕ) → x < 256 → AreBytes (replicate n x)
@@ -262,6 +296,7 @@ session-examples = record {
   refusals = refusals;
   cuts = cuts;
   checking-cuts = checking-cuts;
+  data-cuts = data-cuts;
   sizes = record { key-size = refl; nonce-size = refl; data-limit = omega arith; text-limit = omega arith };
   another = another;
 }

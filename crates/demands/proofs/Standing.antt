@@ -7,16 +7,15 @@ use Rattle.calls.specs.declared.Answer.{Answer}
 use Rattle.calls.specs.declared.Answer.the-variants.{Refused, Done}
 use Rattle.calls.specs.Calls.{_if_else_, Reply, refused, done, Work, Outcome, answerReply, refusedWith}
 use Rattle.acorn_model.specs.Stretches.{Stretch, inputs, through, dataEnd}
-use Rattle.acorn_model.specs.Machine.{Machine, Call, begin, dataCall, sealText, checkText, sealClose, checkClose, outputOf, isData, refusal}
-use Rattle.acorn_model.specs.Machine.{runThrough, enter, cleared, countData, countText, begun, dataTaken, dataEnded, textTaken, closed, wrote, work, call}
+use Rattle.acorn_model.specs.Machine.{Machine, Call, begin, dataCall, sealText, checkText, sealClose, checkClose, outputOf, isData, refusal, runThrough, enter, cleared, countData, countText, begun, dataTaken, dataEnded, textTaken, closed, wrote, work, call}
 use Rattle.tape_model.specs.Writer.{PlainWriter, WriterCall, start, add, finish, onAnswer, passedOn, started, writerCall}
 use Rattle.tape_model.specs.Writer as plain
 use Rattle.acorn_kernel.proofs.ClosedForm.{run-above}
 use Rattle.calls.proofs.Refusals.{by-number}
 use Rattle.session.specs.Words.{sessionFor}
 use Rattle.session.proofs.WordsBack.{Clear, session-stands}
-use Rattle.tape.specs.declared.Writer.{Writer}
-use Rattle.tape.specs.Contracts.{writerOf}
+use Rattle.tape_writer.specs.declared.Writer.{Writer}
+use Rattle.tape_writer.specs.Contracts.{writerOf}
 
 -- ## Calls leave nothing above the 293 bits
 

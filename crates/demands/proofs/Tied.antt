@@ -11,17 +11,21 @@ use denote.Triple.Clauses
 use denote.Ref.{now}
 use Rattle.acorn_model.specs.Machine as machine
 use Rattle.session.specs.Contracts.{machineOf, Called}
-use Rattle.demands.specs.Messages.{Seals, OpensTo}
+use Rattle.message.specs.Contracts.{Seals, OpensTo, DecryptsInto}
 use Rattle.message.proofs.seal as seal'
 use Rattle.message.proofs.seal.Kinds as seal-kinds
 use Rattle.message.proofs.seal.Reads as seal-reads
 use Rattle.message.proofs.open as open'
 use Rattle.message.proofs.open.Kinds as open-kinds
 use Rattle.message.proofs.open.Reads as open-reads
-use Rattle.tape_model.specs.Tape.{openedReply}
+use Rattle.message.proofs.decrypt_into as decrypt-into'
+use Rattle.message.proofs.decrypt_into.Kinds as decrypt-into-kinds
+use Rattle.message.proofs.decrypt_into.Reads as decrypt-into-reads
 use Rattle.tape_model.specs.Writer as plain
-use Rattle.tape.specs.Contracts.{writerOf, WriterCalled, openScratch}
-use Rattle.demands.specs.Refusals.{OpensTape, PacksTicket, PacksHead, UnpacksTicket, UnpacksHead}
+use Rattle.tape_writer.specs.Contracts.{writerOf, WriterCalled}
+use Rattle.tape_opening.specs.Contracts.{OpensTape, OpensScratch}
+use Rattle.ticket.specs.Packing.{nonceOrZeros}
+use Rattle.ticket.specs.Contracts.{PacksTicket, PacksHead, UnpacksTicket, UnpacksHead}
 use Rattle.ticket.proofs.pack_ticket as pack-ticket'
 use Rattle.ticket.proofs.pack_ticket.Kinds as pack-ticket-kinds
 use Rattle.ticket.proofs.pack_ticket.Reads as pack-ticket-reads
@@ -34,27 +38,30 @@ use Rattle.ticket.proofs.unpack_ticket.Reads as unpack-ticket-reads
 use Rattle.ticket.proofs.unpack_head as unpack-head'
 use Rattle.ticket.proofs.unpack_head.Kinds as unpack-head-kinds
 use Rattle.ticket.proofs.unpack_head.Reads as unpack-head-reads
-use Rattle.tape.proofs.Writer.fresh as writer-fresh'
-use Rattle.tape.proofs.Writer.fresh.Kinds as writer-fresh-kinds
-use Rattle.tape.proofs.Writer.fresh.Reads as writer-fresh-reads
-use Rattle.tape.proofs.Writer.start as start'
-use Rattle.tape.proofs.Writer.start.Kinds as start-kinds
-use Rattle.tape.proofs.Writer.start.Reads as start-reads
-use Rattle.tape.proofs.Writer.add as add'
-use Rattle.tape.proofs.Writer.add.Kinds as add-kinds
-use Rattle.tape.proofs.Writer.add.Reads as add-reads
-use Rattle.tape.proofs.Writer.add_first as add-first'
-use Rattle.tape.proofs.Writer.add_first.Kinds as add-first-kinds
-use Rattle.tape.proofs.Writer.add_first.Reads as add-first-reads
-use Rattle.tape.proofs.Writer.finish as finish'
-use Rattle.tape.proofs.Writer.finish.Kinds as finish-kinds
-use Rattle.tape.proofs.Writer.finish.Reads as finish-reads
-use Rattle.tape.proofs.open_tape as open-tape'
-use Rattle.tape.proofs.open_tape.Kinds as open-tape-kinds
-use Rattle.tape.proofs.open_tape.Reads as open-tape-reads
-use Rattle.tape.proofs.open_scratch as open-scratch'
-use Rattle.tape.proofs.open_scratch.Kinds as open-scratch-kinds
-use Rattle.tape.proofs.open_scratch.Reads as open-scratch-reads
+use Rattle.ticket.proofs.nonce_of as nonce-of'
+use Rattle.ticket.proofs.nonce_of.Kinds as nonce-of-kinds
+use Rattle.ticket.proofs.nonce_of.Reads as nonce-of-reads
+use Rattle.tape_writer.proofs.Writer.fresh as writer-fresh'
+use Rattle.tape_writer.proofs.Writer.fresh.Kinds as writer-fresh-kinds
+use Rattle.tape_writer.proofs.Writer.fresh.Reads as writer-fresh-reads
+use Rattle.tape_writer.proofs.Writer.start as start'
+use Rattle.tape_writer.proofs.Writer.start.Kinds as start-kinds
+use Rattle.tape_writer.proofs.Writer.start.Reads as start-reads
+use Rattle.tape_writer.proofs.Writer.add as add'
+use Rattle.tape_writer.proofs.Writer.add.Kinds as add-kinds
+use Rattle.tape_writer.proofs.Writer.add.Reads as add-reads
+use Rattle.tape_writer.proofs.Writer.add_first as add-first'
+use Rattle.tape_writer.proofs.Writer.add_first.Kinds as add-first-kinds
+use Rattle.tape_writer.proofs.Writer.add_first.Reads as add-first-reads
+use Rattle.tape_writer.proofs.Writer.finish as finish'
+use Rattle.tape_writer.proofs.Writer.finish.Kinds as finish-kinds
+use Rattle.tape_writer.proofs.Writer.finish.Reads as finish-reads
+use Rattle.tape_opening.proofs.open_tape as open-tape'
+use Rattle.tape_opening.proofs.open_tape.Kinds as open-tape-kinds
+use Rattle.tape_opening.proofs.open_tape.Reads as open-tape-reads
+use Rattle.tape_opening.proofs.open_scratch as open-scratch'
+use Rattle.tape_opening.proofs.open_scratch.Kinds as open-scratch-kinds
+use Rattle.tape_opening.proofs.open_scratch.Reads as open-scratch-reads
 use Rattle.session.proofs.Session.fresh as fresh'
 use Rattle.session.proofs.Session.fresh.Kinds as fresh-kinds
 use Rattle.session.proofs.Session.fresh.Reads as fresh-reads
@@ -160,6 +167,14 @@ module _ (κs : Lifetimes.Lfts 5) (a : World.ArgsD open'.signature κs) where
       → OpensTo (now (a .0)) (now (a .1 .0)) (now (a .1 .1 .0)) (now (a .1 .1 .1 .0)) (now (a .1 .1 .1 .1 .0)) r (now (x .1 .1 .1 .1 .0))
   open-says r x h = h
 
+module _ (κs : Lifetimes.Lfts 5) (a : World.ArgsD decrypt-into'.signature κs) where
+  decrypt-into-asks : decrypt-into-reads.Asked κs a
+  decrypt-into-asks = tt
+
+  decrypt-into-says : (r : World.ResD decrypt-into'.signature κs) (x : Clauses.AtExit (Kinds'.endedOf 5 decrypt-into-kinds.ps decrypt-into-kinds.r) κs) → decrypt-into-reads.Learnt κs a r x
+      → DecryptsInto (now (a .0)) (now (a .1 .0)) (now (a .1 .1 .0)) (now (a .1 .1 .1 .0)) (now (a .1 .1 .1 .1 .0)) r (now (x .1 .1 .1 .1 .0))
+  decrypt-into-says r x h = h
+
 module _ (κs : Lifetimes.Lfts 0) (a : World.ArgsD writer-fresh'.signature κs) where
   writer-fresh-asks : writer-fresh-reads.Asked κs a
   writer-fresh-asks = tt
@@ -213,7 +228,7 @@ module _ (κs : Lifetimes.Lfts 3) (a : World.ArgsD open-scratch'.signature κs) 
   open-scratch-asks = tt
 
   open-scratch-says : (r : World.ResD open-scratch'.signature κs) (x : Clauses.AtExit (Kinds'.endedOf 3 open-scratch-kinds.ps open-scratch-kinds.r) κs) → open-scratch-reads.Learnt κs a r x
-      → openScratch (now (a .0)) (now (a .1 .0)) (now (a .1 .1 .0)) ≡ record { answer = openedReply r; out = now (x .1 .1 .0) }
+      → OpensScratch (now (a .0)) (now (a .1 .0)) (now (a .1 .1 .0)) r (now (x .1 .1 .0))
   open-scratch-says r x h = h
 
 module _ (κs : Lifetimes.Lfts 1) (a : World.ArgsD pack-ticket'.signature κs) where
@@ -247,3 +262,11 @@ module _ (κs : Lifetimes.Lfts 1) (a : World.ArgsD unpack-head'.signature κs) w
   unpack-head-says : (r : World.ResD unpack-head'.signature κs) (x : Clauses.AtExit (Kinds'.endedOf 1 unpack-head-kinds.ps unpack-head-kinds.r) κs) → unpack-head-reads.Learnt κs a r x
       → UnpacksHead (now (a .0)) r
   unpack-head-says r x h = h
+
+module _ (κs : Lifetimes.Lfts 1) (a : World.ArgsD nonce-of'.signature κs) where
+  nonce-of-asks : nonce-of-reads.Asked κs a
+  nonce-of-asks = tt
+
+  nonce-of-says : (r : World.ResD nonce-of'.signature κs) (x : Clauses.AtExit (Kinds'.endedOf 1 nonce-of-kinds.ps nonce-of-kinds.r) κs) → nonce-of-reads.Learnt κs a r x
+      → r ≡ nonceOrZeros (now (a .0))
+  nonce-of-says r x h = h

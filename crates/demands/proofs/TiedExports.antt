@@ -1,5 +1,6 @@
--- What a caller learns of each exported call, as the toolchain reads the contract in the source, is `SessionSeen` or `WriterSeen` at its call, and a
--- caller is asked nothing; so `SessionWords` and `WriterWords` are made of the contracts of the exports and of nothing else.
+-- What a caller learns of each exported call, as the toolchain reads the contract in the source, is what specs/Exports speaks of (`SessionSeen` or
+-- `WriterSeen` at its call, or `SealSeen` and the like), and a caller is asked nothing; so the demands on the interface for C rest on the contracts of
+-- the exports and on nothing else.
 use mathlib.Core.Path.{_≡_}
 use mathlib.Core.List.{[]}
 use contract.Lifetimes
@@ -11,8 +12,8 @@ use Rattle.acorn_model.specs.declared.Kind.the-variants.{Sealing, Checking}
 use Rattle.acorn_model.specs.Machine as machine
 use Rattle.tape_model.specs.Writer as plain
 use Rattle.session.specs.Words.{wordsFor}
-use Rattle.tape.specs.Words.{writerWordsFor}
-use Rattle.haul_tape.specs.Contracts.{SessionSeen, WriterSeen}
+use Rattle.tape_writer.specs.Words.{writerWordsFor}
+use Rattle.haul_tape.specs.Contracts.{SessionSeen, WriterSeen, SealSeen, OpenSeen, PackTicketSeen, UnpackTicketSeen, PackHeadSeen, UnpackHeadSeen, OpenTapeSeen, ReadTicketSeen, ListTapeSeen}
 use Rattle.haul_tape.proofs.ht_session_fresh_sealing as fresh-sealing'
 use Rattle.haul_tape.proofs.ht_session_fresh_sealing.Kinds as fresh-sealing-kinds
 use Rattle.haul_tape.proofs.ht_session_fresh_sealing.Reads as fresh-sealing-reads
@@ -49,6 +50,33 @@ use Rattle.haul_tape.proofs.ht_writer_add.Reads as add-reads
 use Rattle.haul_tape.proofs.ht_writer_finish as finish'
 use Rattle.haul_tape.proofs.ht_writer_finish.Kinds as finish-kinds
 use Rattle.haul_tape.proofs.ht_writer_finish.Reads as finish-reads
+use Rattle.haul_tape.proofs.ht_seal as seal'
+use Rattle.haul_tape.proofs.ht_seal.Kinds as seal-kinds
+use Rattle.haul_tape.proofs.ht_seal.Reads as seal-reads
+use Rattle.haul_tape.proofs.ht_open as open'
+use Rattle.haul_tape.proofs.ht_open.Kinds as open-kinds
+use Rattle.haul_tape.proofs.ht_open.Reads as open-reads
+use Rattle.haul_tape.proofs.ht_pack_ticket as pack-ticket'
+use Rattle.haul_tape.proofs.ht_pack_ticket.Kinds as pack-ticket-kinds
+use Rattle.haul_tape.proofs.ht_pack_ticket.Reads as pack-ticket-reads
+use Rattle.haul_tape.proofs.ht_unpack_ticket as unpack-ticket'
+use Rattle.haul_tape.proofs.ht_unpack_ticket.Kinds as unpack-ticket-kinds
+use Rattle.haul_tape.proofs.ht_unpack_ticket.Reads as unpack-ticket-reads
+use Rattle.haul_tape.proofs.ht_pack_head as pack-head'
+use Rattle.haul_tape.proofs.ht_pack_head.Kinds as pack-head-kinds
+use Rattle.haul_tape.proofs.ht_pack_head.Reads as pack-head-reads
+use Rattle.haul_tape.proofs.ht_unpack_head as unpack-head'
+use Rattle.haul_tape.proofs.ht_unpack_head.Kinds as unpack-head-kinds
+use Rattle.haul_tape.proofs.ht_unpack_head.Reads as unpack-head-reads
+use Rattle.haul_tape.proofs.ht_open_tape as open-tape'
+use Rattle.haul_tape.proofs.ht_open_tape.Kinds as open-tape-kinds
+use Rattle.haul_tape.proofs.ht_open_tape.Reads as open-tape-reads
+use Rattle.haul_tape.proofs.ht_read_ticket as read-ticket'
+use Rattle.haul_tape.proofs.ht_read_ticket.Kinds as read-ticket-kinds
+use Rattle.haul_tape.proofs.ht_read_ticket.Reads as read-ticket-reads
+use Rattle.haul_tape.proofs.ht_list_tape as list-tape'
+use Rattle.haul_tape.proofs.ht_list_tape.Kinds as list-tape-kinds
+use Rattle.haul_tape.proofs.ht_list_tape.Reads as list-tape-reads
 
 module _ (κs : Lifetimes.Lfts 1) (a : World.ArgsD fresh-sealing'.signature κs) where
   fresh-sealing-asks : fresh-sealing-reads.Asked κs a
@@ -157,3 +185,84 @@ module _ (κs : Lifetimes.Lfts 2) (a : World.ArgsD finish'.signature κs) where
       → finish-reads.Learnt κs a r x
       → WriterSeen (now (a .0)) (plain.finish (now (a .1 .0))) (now (x .0)) r (now (x .1 .0))
   finish-says r x h = h
+
+module _ (κs : Lifetimes.Lfts 5) (a : World.ArgsD seal'.signature κs) where
+  seal-asks : seal-reads.Asked κs a
+  seal-asks = tt
+
+  seal-says : (r : World.ResD seal'.signature κs) (x : Clauses.AtExit (Kinds'.endedOf 5 seal-kinds.ps seal-kinds.r) κs)
+      → seal-reads.Learnt κs a r x
+      → SealSeen (now (a .0)) (now (a .1 .0)) (now (a .1 .1 .0)) (now (a .1 .1 .1 .0)) (now (a .1 .1 .1 .1 .0)) r (now (x .1 .1 .1 .1 .0))
+  seal-says r x h = h
+
+module _ (κs : Lifetimes.Lfts 5) (a : World.ArgsD open'.signature κs) where
+  open-asks : open-reads.Asked κs a
+  open-asks = tt
+
+  open-says : (r : World.ResD open'.signature κs) (x : Clauses.AtExit (Kinds'.endedOf 5 open-kinds.ps open-kinds.r) κs)
+      → open-reads.Learnt κs a r x
+      → OpenSeen (now (a .0)) (now (a .1 .0)) (now (a .1 .1 .0)) (now (a .1 .1 .1 .0)) (now (a .1 .1 .1 .1 .0)) r (now (x .1 .1 .1 .1 .0))
+  open-says r x h = h
+
+module _ (κs : Lifetimes.Lfts 1) (a : World.ArgsD pack-ticket'.signature κs) where
+  pack-ticket-asks : pack-ticket-reads.Asked κs a
+  pack-ticket-asks = tt
+
+  pack-ticket-says : (r : World.ResD pack-ticket'.signature κs) (x : Clauses.AtExit (Kinds'.endedOf 1 pack-ticket-kinds.ps pack-ticket-kinds.r) κs)
+      → pack-ticket-reads.Learnt κs a r x
+      → PackTicketSeen (a .0) (now (a .1 .0)) r (now (x .1 .0))
+  pack-ticket-says r x h = h
+
+module _ (κs : Lifetimes.Lfts 1) (a : World.ArgsD unpack-ticket'.signature κs) where
+  unpack-ticket-asks : unpack-ticket-reads.Asked κs a
+  unpack-ticket-asks = tt
+
+  unpack-ticket-says : (r : World.ResD unpack-ticket'.signature κs) (x : Clauses.AtExit (Kinds'.endedOf 1 unpack-ticket-kinds.ps unpack-ticket-kinds.r) κs)
+      → unpack-ticket-reads.Learnt κs a r x
+      → UnpackTicketSeen (now (a .0)) r
+  unpack-ticket-says r x h = h
+
+module _ (κs : Lifetimes.Lfts 1) (a : World.ArgsD pack-head'.signature κs) where
+  pack-head-asks : pack-head-reads.Asked κs a
+  pack-head-asks = tt
+
+  pack-head-says : (r : World.ResD pack-head'.signature κs) (x : Clauses.AtExit (Kinds'.endedOf 1 pack-head-kinds.ps pack-head-kinds.r) κs)
+      → pack-head-reads.Learnt κs a r x
+      → PackHeadSeen (a .0) (now (a .1 .0)) r (now (x .1 .0))
+  pack-head-says r x h = h
+
+module _ (κs : Lifetimes.Lfts 1) (a : World.ArgsD unpack-head'.signature κs) where
+  unpack-head-asks : unpack-head-reads.Asked κs a
+  unpack-head-asks = tt
+
+  unpack-head-says : (r : World.ResD unpack-head'.signature κs) (x : Clauses.AtExit (Kinds'.endedOf 1 unpack-head-kinds.ps unpack-head-kinds.r) κs)
+      → unpack-head-reads.Learnt κs a r x
+      → UnpackHeadSeen (now (a .0)) r
+  unpack-head-says r x h = h
+
+module _ (κs : Lifetimes.Lfts 3) (a : World.ArgsD open-tape'.signature κs) where
+  open-tape-asks : open-tape-reads.Asked κs a
+  open-tape-asks = tt
+
+  open-tape-says : (r : World.ResD open-tape'.signature κs) (x : Clauses.AtExit (Kinds'.endedOf 3 open-tape-kinds.ps open-tape-kinds.r) κs)
+      → open-tape-reads.Learnt κs a r x
+      → OpenTapeSeen (now (a .0)) (now (a .1 .0)) (now (a .1 .1 .0)) r (now (x .1 .1 .0))
+  open-tape-says r x h = h
+
+module _ (κs : Lifetimes.Lfts 1) (a : World.ArgsD read-ticket'.signature κs) where
+  read-ticket-asks : read-ticket-reads.Asked κs a
+  read-ticket-asks = tt
+
+  read-ticket-says : (r : World.ResD read-ticket'.signature κs) (x : Clauses.AtExit (Kinds'.endedOf 1 read-ticket-kinds.ps read-ticket-kinds.r) κs)
+      → read-ticket-reads.Learnt κs a r x
+      → ReadTicketSeen (now (a .0)) (a .1 .0) r
+  read-ticket-says r x h = h
+
+module _ (κs : Lifetimes.Lfts 3) (a : World.ArgsD list-tape'.signature κs) where
+  list-tape-asks : list-tape-reads.Asked κs a
+  list-tape-asks = tt
+
+  list-tape-says : (r : World.ResD list-tape'.signature κs) (x : Clauses.AtExit (Kinds'.endedOf 3 list-tape-kinds.ps list-tape-kinds.r) κs)
+      → list-tape-reads.Learnt κs a r x
+      → ListTapeSeen (now (a .0)) (now (a .1 .0)) (now (a .1 .1 .0)) r (now (x .1 .1 .0))
+  list-tape-says r x h = h

@@ -6,8 +6,7 @@ use lib.ListN.{length, replicate}
 use borrow.Author.Tests.{le-ltb, eq-eqb}
 use Rattle.calls.specs.Calls.{Reply, refused, done, Work, unlessRefused, refusedWith}
 use Rattle.calls.specs.Lists.{Entry, entries, handedOn, AllAccepted}
-use Rattle.acorn_model.specs.Machine.{keyLength, answered, wrote}
-use Rattle.acorn_model.specs.Machine.{work as machineWork}
+use Rattle.acorn_model.specs.Machine.{keyLength, answered, wrote, work as machineWork}
 use Rattle.tape_model.specs.declared.WriterPhase.the-variants.{Closed}
 use Rattle.tape_model.specs.Ticket.{ticketLength, ordered, valuesRule, ticketRule, headLength, headRule}
 use Rattle.tape_model.specs.Writer.{PlainWriter, freshWriter, WriterCall, start, phaseAllows, keyRight, headRight, ticketRight, tapeFull, outputShort, refusal, writerCall}
@@ -28,7 +27,7 @@ module _ (cs : List WriterCall) (P : List (Entry WriterCall Work) → PlainWrite
   on-writer : P (entries writerCall freshWriter cs) (handedOn writerCall freshWriter cs) → SomeWriter cs P
   on-writer h =
       let x = writers-exist cs in
-      let e = writer-demand .as-plain (x .0) (x .1) (x .2) in (
+      let e = writer-demand (x .0) (x .1) (x .2) .as-plain in (
         x .0,
         x .1,
         x .2,

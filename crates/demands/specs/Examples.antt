@@ -7,15 +7,12 @@ use lib.ListN.{length, replicate}
 use Rattle.acorn_model.specs.declared.Kind.{Kind}
 use Rattle.acorn_model.specs.declared.Kind.the-variants.{Sealing, Checking}
 use Rattle.calls.specs.declared.Written.{Written}
-use Rattle.calls.specs.Calls.{AreBytes}
+use Rattle.calls.specs.Calls.{AreBytes, Reply, refused, done, Work, writtenReply}
 use Rattle.acorn_model.specs.Paper.{newTag}
-use Rattle.calls.specs.Calls.{Reply, refused, done, Work, writtenReply}
 use Rattle.calls.specs.Lists.{Entry, callsOf, AllAccepted}
 use Rattle.acorn_model.specs.Machine.{tagLength, Machine, Call, begin, dataCall, sealText, checkText, sealClose, checkClose, keyLength}
 use Rattle.acorn_model.specs.Laws.{WithinLimits}
 use Rattle.acorn_model.specs.Lists.{logOf, Ended, Alike}
-use Rattle.tape_model.specs.declared.Ticket.{Ticket}
-use Rattle.tape_model.specs.declared.Head.{Head}
 use Rattle.tape_model.specs.declared.OpenedTape.{OpenedTape}
 use Rattle.tape_model.specs.declared.WriterPhase.the-variants.{Closed}
 use Rattle.tape_model.specs.Ticket.{ticketLength, headLength, packHead}
@@ -26,13 +23,13 @@ use Rattle.tape_model.specs.RefusalCases.{goodHead, goodTicket}
 use Rattle.session.specs.declared.Session.{Session}
 use Rattle.session.specs.declared.Reply.{Reply as SessionReply}
 use Rattle.session.specs.Contracts.{machineOf, Called}
-use Rattle.tape.specs.declared.Writer.{Writer}
-use Rattle.tape.specs.declared.WriterReply.{WriterReply}
-use Rattle.tape.specs.Contracts.{writerOf, WriterCalled}
+use Rattle.tape_writer.specs.declared.Writer.{Writer}
+use Rattle.tape_writer.specs.declared.WriterReply.{WriterReply}
+use Rattle.tape_writer.specs.Contracts.{writerOf, WriterCalled}
 use Rattle.demands.specs.Sessions.{SessionList}
 use Rattle.demands.specs.Writers.{WriterList}
-use Rattle.demands.specs.Refusals.{OpensTape}
-use Rattle.demands.specs.Messages.{Seals, OpensTo}
+use Rattle.tape_opening.specs.Contracts.{OpensTape}
+use Rattle.message.specs.Contracts.{Seals, OpensTo}
 
 -- ## Every call, and every list of calls
 
@@ -83,6 +80,11 @@ cutCalls key nonce «data» first second firstOut secondOut tagOut =
 abbrev pub cutCheckingCalls : (key nonce «data» first second tag : List ℕ) → List Call
 cutCheckingCalls key nonce «data» first second tag = begin key nonce ∷ dataCall «data» ∷ checkText first ∷ checkText second ∷ checkClose tag ∷ []
 
+-- the data in two pieces, and between them an empty piece and a begin that is refused with 1
+abbrev pub cutDataCalls : (key nonce first second text out tagOut : List ℕ) → List Call
+cutDataCalls key nonce first second text out tagOut =
+    begin key nonce ∷ dataCall first ∷ dataCall [] ∷ begin key nonce ∷ dataCall second ∷ sealText text out ∷ sealClose tagOut ∷ []
+
 pub record SessionExamples : Type 0 where
   -- begin, data, text and close of a sealing session, with room for what they write, are accepted and end it
   pub sealing : (key nonce «data» text out tagOut : List ℕ) → WithinLimits key nonce «data» text → length text ≤ length out → tagLength ≤ length tagOut
@@ -105,6 +107,11 @@ pub record SessionExamples : Type 0 where
   pub checking-cuts : (key nonce «data» first second tag : List ℕ) → WithinLimits key nonce «data» (first ++ second) → length tag ≡ tagLength
       → SomeSession Checking (checkingCalls key nonce «data» (first ++ second) tag)
       (λ es m. Ended m × SomeSession Checking (cutCheckingCalls key nonce «data» first second tag) (EndAlike Checking es))
+  -- and data in one piece and in pieces, with an empty piece and a refused call between them
+  pub data-cuts : (key nonce first second text out tagOut : List ℕ) → WithinLimits key nonce (first ++ second) text
+      → length text ≤ length out → tagLength ≤ length tagOut
+      → SomeSession Sealing (sealingCalls key nonce (first ++ second) text out tagOut)
+      (λ es m. Ended m × SomeSession Sealing (cutDataCalls key nonce first second text out tagOut) (EndAlike Sealing es))
   -- there are strings within the limits, and for every tag there is another
   pub sizes : WithinLimits (replicate 16 0) (replicate 16 0) [] (0 ∷ [])
   pub another : (T : List ℕ) → (tag : List ℕ) × AreBytes tag × (length tag ≡ tagLength) × (tag ≡ T → ⊥)

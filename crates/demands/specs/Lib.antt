@@ -1,7 +1,9 @@
+pub mod SessionFacts
 pub mod Sessions
 pub mod Writers
 pub mod Refusals
 pub mod Tapes
+pub mod TapesOpen
 pub mod Exports
 pub mod Messages
 pub mod Examples

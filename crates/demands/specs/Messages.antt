@@ -7,18 +7,11 @@ use Prim.Native.Nat.{ℕ, _+_, _-_, _≤_}
 use lib.ListN.{length}
 use Rattle.calls.specs.declared.Written.{Written}
 use Rattle.acorn_model.specs.Bits.{Bits, bitsIn, bytes}
-use Rattle.calls.specs.Calls.{AreBytes}
-use Rattle.calls.specs.Calls.{done, refused, writtenReply, writtenOver}
+use Rattle.calls.specs.Calls.{done, refused, writtenReply, writtenOver, AreBytes}
 use Rattle.acorn_model.specs.Machine.{tagLength, keyLength, nonceLength, byteLimit}
-use Rattle.acorn_model.specs.Message.{sealMessage, tagMatches, openMessage}
+use Rattle.acorn_model.specs.Message.{tagMatches}
 use Rattle.acorn_model.specs.Laws.{ByPaper, WithinLimits}
-
--- the contracts: the call answered r, and left `after` in the output that was `out`
-abbrev pub Seals : List ℕ → List ℕ → List ℕ → List ℕ → List ℕ → Written → List ℕ → Type 0
-Seals key nonce «data» text out r after = sealMessage key nonce «data» text out ≡ record { answer = writtenReply r; out = after }
-
-abbrev pub OpensTo : List ℕ → List ℕ → List ℕ → List ℕ → List ℕ → Written → List ℕ → Type 0
-OpensTo key nonce «data» sealedBytes out r after = openMessage key nonce «data» sealedBytes out ≡ record { answer = writtenReply r; out = after }
+use Rattle.message.specs.Contracts.{Seals, OpensTo}
 
 module _ (key nonce «data» : List ℕ) where
   pub record MessageDemand : Type 0 where
@@ -30,7 +23,7 @@ module _ (key nonce «data» : List ℕ) where
     -- and there is such a ciphertext and tag
     pub sealable : (text : List ℕ) → (c T : Bits) × ByPaper key nonce «data» (length text) (bitsIn text) c T
     -- and every ciphertext is that of a text, with a tag
-    pub openable : (cipher : List ℕ) → AreBytes cipher → (p T : Bits) × ByPaper key nonce «data» (length cipher) p (bitsIn cipher) T
+    pub openable : (cipher : List ℕ) → (p T : Bits) × ByPaper key nonce «data» (length cipher) p (bitsIn cipher) T
     -- a text is given exactly when the sealed bytes are the paper's ciphertext and tag of it
     pub opening : (sealedBytes text out after : List ℕ) (r : Written) → AreBytes sealedBytes → AreBytes text
         → WithinLimits key nonce «data» text → length text ≤ length out → OpensTo key nonce «data» sealedBytes out r after

@@ -3,15 +3,14 @@ use mathlib.Core.Path.{_≡_}
 use mathlib.Core.Bool.{Bool, true, false, not}
 use mathlib.Core.List.{List}
 use mathlib.Core.Logic.{_↔_}
-use Prim.Native.Nat.{ℕ, suc, _*_, _/_, _≤_, _<_, _^_}
-use lib.Dec.{leb, ltb, eqb}
+use Prim.Native.Nat.{ℕ, suc, _*_, _/_, _≤_}
+use lib.Dec.{leb}
 use lib.ListN.{length, take, drop}
-use Rattle.acorn_model.specs.declared.Kind.{Kind}
 use Rattle.calls.specs.declared.Written.{Written}
-use Rattle.calls.specs.Calls.{Work, _if_else_, Reply, refused, done, accepted, unlessRefused, sameBytes, answerReply, writtenReply}
+use Rattle.calls.specs.Calls.{Work, _if_else_, Reply, refused, done, accepted, unlessRefused, sameBytes, answerReply, writtenReply, isRefused}
 use Rattle.acorn_model.specs.Stretches.{tagOf}
 use Rattle.calls.specs.Lists.{Entry}
-use Rattle.acorn_model.specs.Machine.{Machine, fresh, Call, begin, dataCall, sealText, checkText, sealClose, checkClose, outputOf, keyLength, refusal, textEnded}
+use Rattle.acorn_model.specs.Machine.{Machine, Call, begin, dataCall, sealText, checkText, sealClose, checkClose, outputOf, keyLength, refusal, textEnded}
 use Rattle.acorn_model.specs.Lists.{Ended}
 use Rattle.acorn_model.specs.Message as message
 use Rattle.tape_model.specs.declared.Ticket.{Ticket}
@@ -20,25 +19,25 @@ use Rattle.tape_model.specs.declared.UnpackedTicket.{UnpackedTicket}
 use Rattle.tape_model.specs.declared.UnpackedHead.{UnpackedHead}
 use Rattle.tape_model.specs.declared.OpenedTape.{OpenedTape}
 use Rattle.tape_model.specs.declared.WriterPhase.the-variants.{Open}
-use Rattle.tape_model.specs.Format.{widths, inRanges, unpack}
-use Rattle.tape_model.specs.Ticket.{form1, ticketLength, valuesRule, ticketRule, packTicketInto, unpackTicket, ticketReply}
-use Rattle.tape_model.specs.Ticket.{headFormat, headLength, headRule, packHeadInto, unpackHead, headReply}
-use Rattle.tape_model.specs.Tape.{ticketLimit, nonceOf, isTicketsLength, isRefused, isTapeLength, headBytes, sealedBytes, ticketCount, openTapeRefusal, openTape, openedReply}
+use Rattle.tape_model.specs.Ticket.{ticketLength, writeRule, unpackTicket, ticketReply, unpackHead, headReply, packTicketRefusal, unpackTicketRefusal, packHeadRefusal, unpackHeadRefusal}
+use Rattle.tape_model.specs.Tape.{ticketLimit, nonceOf, isTicketsLength, isTapeLength, headBytes, sealedBytes, ticketCount, openTapeRefusal, openedReply}
 use Rattle.tape_model.specs.Writer.{WriterCall, add}
 use Rattle.tape_model.specs.Writer as plain
 use Rattle.tape_model.specs.WriterLists.{writerLog}
 use Rattle.tape_model.specs.Reader as model
 use Rattle.tape_model.specs.Reader.{nextReply}
+use Rattle.message.specs.Contracts.{Seals, OpensTo}
+use Rattle.ticket.specs.Contracts.{PacksTicket, PacksHead, UnpacksTicket, UnpacksHead}
 use Rattle.session.specs.declared.Session.{Session}
 use Rattle.session.specs.declared.Reply.{Reply as SessionReply}
 use Rattle.session.specs.Contracts.{machineOf, Called}
-use Rattle.tape.specs.declared.Writer.{Writer}
-use Rattle.tape.specs.declared.WriterReply.{WriterReply}
-use Rattle.tape.specs.Contracts.{writerOf, WriterCalled}
+use Rattle.tape_writer.specs.declared.Writer.{Writer}
+use Rattle.tape_writer.specs.declared.WriterReply.{WriterReply}
+use Rattle.tape_writer.specs.Contracts.{writerOf, WriterCalled}
+use Rattle.tape_opening.specs.Contracts.{OpensTape}
 use Rattle.reader.specs.declared.Reader.{Reader}
 use Rattle.reader.specs.declared.ReaderReply.{ReaderReply}
 use Rattle.reader.specs.Contracts.{readerOf, NextCalled}
-use Rattle.demands.specs.Messages.{Seals, OpensTo}
 use Rattle.demands.specs.Writers.{WriterList}
 
 -- ## Numbers
@@ -69,20 +68,13 @@ tagDiffers m (checkClose tag) = not (sameBytes tag (tagOf (textEnded m .state)))
 abbrev pub sessionNumber : Machine → Call → ℕ
 sessionNumber m c = unlessRefused (refusal m c) (7 if tagDiffers m c else accepted) (refusal m c)
 
--- A count of steps that 64 bits hold. Every session has one, as its count is a u64; the contracts say it too: a fresh session or writer has one
--- (`RefusalDemand.fresh-count`, `fresh-writer-count`), and so has every one that a call hands back (`count`).
-abbrev pub Counts64 : ℕ → Type 0
-Counts64 n = n < 2 ^ 64
-
 module _ (s : Session) (c : Call) (r : SessionReply) (out : List ℕ) (called : Called s c r out) where
   pub record SessionRefusals : Type 0 where
     pub number : AnsweredBy (sessionNumber (machineOf s) c) (answerReply (r .answer))
     -- a refused call leaves session and lent bytes unchanged, but for 7
-    pub unchanged : (n : ℕ) → Counts64 (machineOf s .counts .steps) → answerReply (r .answer) ≡ refused n → (n ≡ 7 → ⊥)
-        → (machineOf (r .session) ≡ machineOf s) × (out ≡ outputOf c)
+    pub unchanged : (n : ℕ) → answerReply (r .answer) ≡ refused n → (n ≡ 7 → ⊥) → (machineOf (r .session) ≡ machineOf s) × (out ≡ outputOf c)
     -- with 7 the session has ended, and lent bytes are unchanged
     pub seven : answerReply (r .answer) ≡ refused 7 → Ended (machineOf (r .session)) × (out ≡ outputOf c)
-    pub count : Counts64 (machineOf (r .session) .counts .steps)
 
 -- ## Writers
 
@@ -93,28 +85,9 @@ module _ (w : Writer) (c : WriterCall) (r : WriterReply) (out : List ℕ) (calle
     -- and only then, on a writer that calls led to from a fresh one
     pub exactly : (es : List (Entry WriterCall Work)) → WriterList es w → AnsweredBy (plain.refusal (writerOf w) c) (answerReply (r .answer))
     -- a refused call leaves writer and lent bytes unchanged
-    pub unchanged : (n : ℕ) → Counts64 (writerOf w .machine .counts .steps) → answerReply (r .answer) ≡ refused n
-        → (writerOf (r .writer) ≡ writerOf w) × (out ≡ plain.outputOf c)
-    pub count : Counts64 (writerOf (r .writer) .machine .counts .steps)
+    pub unchanged : (n : ℕ) → answerReply (r .answer) ≡ refused n → (writerOf (r .writer) ≡ writerOf w) × (out ≡ plain.outputOf c)
 
 -- ## Tapes, tickets and heads
-
--- the contracts of `tape::open_tape`, `ticket::pack_ticket` and `pack_head`: the call answered r, and left `after` in the output that was `out`
-abbrev pub OpensTape : List ℕ → List ℕ → List ℕ → OpenedTape → List ℕ → Type 0
-OpensTape key tape out r after = openTape key tape out ≡ record { answer = openedReply r; out = after }
-
-abbrev pub PacksTicket : Ticket → List ℕ → Written → List ℕ → Type 0
-PacksTicket t out r after = packTicketInto t out ≡ record { answer = writtenReply r; out = after }
-
-abbrev pub PacksHead : Head → List ℕ → Written → List ℕ → Type 0
-PacksHead h out r after = packHeadInto h out ≡ record { answer = writtenReply r; out = after }
-
--- those of `ticket::unpack_ticket` and `unpack_head`, which are lent no output
-abbrev pub UnpacksTicket : List ℕ → UnpackedTicket → Type 0
-UnpacksTicket string r = ticketReply r ≡ unpackTicket string
-
-abbrev pub UnpacksHead : List ℕ → UnpackedHead → Type 0
-UnpacksHead string r = headReply r ≡ unpackHead string
 
 module _ (key tape out after : List ℕ) (r : OpenedTape) (opened : OpensTape key tape out r after) where
   pub record OpeningRefusals : Type 0 where
@@ -145,12 +118,10 @@ module _ (r : Reader) (h : ReaderReply) (called : NextCalled r h) where
 
 pub record RefusalDemand : Type 0 where
   pub sessions : (s : Session) (c : Call) (r : SessionReply) (out : List ℕ) (called : Called s c r out) → SessionRefusals s c r out called
-  pub fresh-count : (s : Session) (kind : Kind) → machineOf s ≡ fresh kind → Counts64 (machineOf s .counts .steps)
-  pub fresh-writer-count : (w : Writer) → writerOf w ≡ plain.freshWriter → Counts64 (writerOf w .machine .counts .steps)
   pub writers : (w : Writer) (c : WriterCall) (r : WriterReply) (out : List ℕ) (called : WriterCalled w c r out) → WriterRefusals w c r out called
   -- the 5,001st ticket
   pub ticket-5001 : (es : List (Entry WriterCall Work)) (w : Writer) → WriterList es w → writerOf w .phase ≡ Open → length (writerLog es .tickets) ≡ ticketLimit
-      → (t : Ticket) (out after : List ℕ) (r : WriterReply) → ticketRule t ≡ true → WriterCalled w (add t out) r after
+      → (t : Ticket) (out after : List ℕ) (r : WriterReply) → writeRule t ≡ true → WriterCalled w (add t out) r after
       → answerReply (r .answer) ≡ refused 5
   -- whole messages
   pub sealing : (key nonce «data» text out after : List ℕ) (r : Written) → Seals key nonce «data» text out r after
@@ -169,12 +140,10 @@ pub record RefusalDemand : Type 0 where
   pub readers : (r : Reader) (h : ReaderReply) (called : NextCalled r h) → ReaderRefusals r h called
   -- tickets and heads by themselves
   pub packing : (t : Ticket) (out after : List ℕ) (r : Written) → PacksTicket t out r after
-      → RefusedBy (4 if not (ticketRule t) else 6 if ltb (length out) ticketLength else accepted) (writtenReply r) out after
+      → RefusedBy (packTicketRefusal t out) (writtenReply r) out after
   pub packing-heads : (h : Head) (out after : List ℕ) (r : Written) → PacksHead h out r after
-      → RefusedBy (3 if not (headRule h) else 6 if ltb (length out) headLength else accepted) (writtenReply r) out after
+      → RefusedBy (packHeadRefusal h out) (writtenReply r) out after
   pub unpacking : (string : List ℕ) (r : UnpackedTicket) → UnpacksTicket string r
-      → AnsweredBy (2 if not (eqb (length string) ticketLength) else 8 if not (valuesRule (unpack (widths form1) string)) else accepted)
-      (ticketReply r)
+      → AnsweredBy (unpackTicketRefusal string) (ticketReply r)
   pub unpacking-heads : (string : List ℕ) (r : UnpackedHead) → UnpacksHead string r
-      → AnsweredBy (2 if not (eqb (length string) headLength) else 3 if not (inRanges headFormat (unpack (widths headFormat) string)) else accepted)
-      (headReply r)
+      → AnsweredBy (unpackHeadRefusal string) (headReply r)

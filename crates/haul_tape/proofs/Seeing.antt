@@ -2,18 +2,18 @@
 use mathlib.Core.Path.{_≡_, ap, sym, _∙_}
 use mathlib.Core.List.{List, []}
 use Prim.Native.Nat.{ℕ}
-use Rattle.calls.specs.Calls.{Reply, Work, Outcome, answerReply, _if_else_, Result, sentBack}
+use Rattle.calls.specs.Calls.{Reply, Work, Outcome, answerReply, _if_else_, Result, leftUnchanged}
 use Rattle.acorn_model.specs.Machine.{Call, call}
 use Rattle.tape_model.specs.Writer.{WriterCall, writerCall}
 use Rattle.session.specs.declared.Session.{Session}
 use Rattle.session.specs.declared.Reply.{Reply as SessionReply}
 use Rattle.session.specs.Contracts.{machineOf, sessionOutcome, wrappedOutcome, Called}
 use Rattle.session.specs.Words.{sessionIn, machineIn, wordsFor}
-use Rattle.tape.specs.declared.Writer.{Writer}
-use Rattle.tape.specs.declared.WriterReply.{WriterReply}
-use Rattle.tape.specs.Contracts as tape
-use Rattle.tape.specs.Contracts.{writerOf, wrappedWriterOutcome, WriterCalled}
-use Rattle.tape.specs.Words.{writerIn, plainWriterIn, writerWordsFor}
+use Rattle.tape_writer.specs.declared.Writer.{Writer}
+use Rattle.tape_writer.specs.declared.WriterReply.{WriterReply}
+use Rattle.tape_writer.specs.Contracts as tape
+use Rattle.tape_writer.specs.Contracts.{writerOf, wrappedWriterOutcome, WriterCalled}
+use Rattle.tape_writer.specs.Words.{writerIn, plainWriterIn, writerWordsFor}
 use Rattle.c_answers.specs.declared.HtAnswer.{HtAnswer}
 use Rattle.c_answers.specs.Answers.{answerNumbers}
 use Rattle.haul_tape.specs.Contracts.{wordsAfter, Seen, SessionSeen, WriterSeen, ResultSeen}
@@ -22,7 +22,7 @@ use Rattle.haul_tape.specs.Contracts.{wordsAfter, Seen, SessionSeen, Wri
 
 -- the outcome o of a call, by what the library's own call handed on and answered, and by the words and the answer that were made of these
 seen : {M : Type 0} (wordsFor : M → List ℕ) (words : List ℕ) (o : Outcome M Work) (next : M) (reply : Reply Work) (after : List ℕ) (answer : HtAnswer) (out : List ℕ)
-    → (_≡_ {A = Outcome M Work} (record { next = next; answer = reply; out = out }) o) → after ≡ (words if sentBack reply else wordsFor next) → answer ≡ answerNumbers reply
+    → (_≡_ {A = Outcome M Work} (record { next = next; answer = reply; out = out }) o) → after ≡ (words if leftUnchanged reply else wordsFor next) → answer ≡ answerNumbers reply
     → Seen wordsFor words o after answer out
 unfolding wordsAfter
 seen wordsFor words o next reply after answer out comes stored told =

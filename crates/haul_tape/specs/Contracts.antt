@@ -2,23 +2,34 @@
 use mathlib.Core.Path.{_≡_}
 use mathlib.Core.List.{List}
 use Prim.Native.Nat.{ℕ}
-use Rattle.calls.specs.Calls.{_if_else_, Reply, Work, Outcome, Result, sentBack}
+use Rattle.calls.specs.Calls.{_if_else_, Reply, Work, Outcome, Result, leftUnchanged, putInto}
 use Rattle.acorn_model.specs.Machine.{Call, call}
+use Rattle.acorn_model.specs.Message.{sealMessage, openMessage}
+use Rattle.tape_model.specs.declared.Ticket.{Ticket}
+use Rattle.tape_model.specs.declared.Head.{Head}
+use Rattle.tape_model.specs.Ticket.{packTicketInto, unpackTicket, packHeadInto, unpackHead}
+use Rattle.tape_model.specs.Tape.{openTape}
 use Rattle.tape_model.specs.Writer.{WriterCall, writerCall}
-use Rattle.tape_model.specs.Reader.{ReadOutcome}
+use Rattle.tape_model.specs.Reader.{ReadOutcome, readNext}
+use Rattle.tape_model.specs.Listing.{listing}
 use Rattle.c_answers.specs.declared.HtAnswer.{HtAnswer}
+use Rattle.c_answers.specs.declared.HtWritten.{HtWritten}
+use Rattle.c_answers.specs.declared.HtOpened.{HtOpened}
+use Rattle.c_answers.specs.declared.HtUnpackedTicket.{HtUnpackedTicket}
+use Rattle.c_answers.specs.declared.HtUnpackedHead.{HtUnpackedHead}
 use Rattle.c_answers.specs.declared.HtReading.{HtReading}
-use Rattle.c_answers.specs.Answers.{answerNumbers, readingNumbers}
+use Rattle.c_answers.specs.Answers.{writtenNumbers, answerNumbers, openedNumbers, ticketNumbers, headNumbers, readingNumbers}
+use Rattle.reader.specs.Contracts.{readerAt}
 use Rattle.session.specs.Contracts.{wrappedOutcome}
 use Rattle.session.specs.Words.{machineIn, wordsFor}
-use Rattle.tape.specs.Contracts.{wrappedWriterOutcome}
-use Rattle.tape.specs.Words.{plainWriterIn, writerWordsFor}
+use Rattle.tape_writer.specs.Contracts.{wrappedWriterOutcome}
+use Rattle.tape_writer.specs.Words.{plainWriterIn, writerWordsFor}
 
 -- ## Calls on the words of a session or a writer
 
--- The words after a call that comes to o: those of what is handed on, or, where the call was sent back, the words before it.
+-- The words after a call that comes to o: those of what is handed on, or, where the call left all unchanged, the words before it.
 unfoldable pub wordsAfter : {M : Type 0} → (M → List ℕ) → List ℕ → Outcome M Work → List ℕ
-wordsAfter wordsFor words o = words if sentBack (o .answer) else wordsFor (o .next)
+wordsAfter wordsFor words o = words if leftUnchanged (o .answer) else wordsFor (o .next)
 
 -- what the call comes to is seen: by the words after it, by its answer, and by its output after it ([] where it is lent none)
 abbrev pub Seen : {M : Type 0} → (M → List ℕ) → List ℕ → Outcome M Work → List ℕ → HtAnswer → List ℕ → Type 0
@@ -38,6 +49,37 @@ WriterSeen words c after answer out = Seen writerWordsFor words (wrappedWriterOu
 abbrev pub ResultSeen : {A N : Type 0} → (Reply A → N) → Result A → N → List ℕ → Type 0
 ResultSeen numbers result answer out = (answer ≡ numbers (result .answer)) × (out ≡ result .out)
 
+-- each call of these by its arguments, the last of them its output as it stood, and by its answer r and its output `after`
+
+abbrev pub SealSeen : (key nonce «data» text out : List ℕ) → HtWritten → List ℕ → Type 0
+SealSeen key nonce «data» text out r after = ResultSeen writtenNumbers (sealMessage key nonce «data» text out) r after
+
+abbrev pub OpenSeen : (key nonce «data» sealedBytes out : List ℕ) → HtWritten → List ℕ → Type 0
+OpenSeen key nonce «data» sealedBytes out r after = ResultSeen writtenNumbers (openMessage key nonce «data» sealedBytes out) r after
+
+abbrev pub PackTicketSeen : Ticket → List ℕ → HtWritten → List ℕ → Type 0
+PackTicketSeen ticket out r after = ResultSeen writtenNumbers (packTicketInto ticket out) r after
+
+abbrev pub PackHeadSeen : Head → List ℕ → HtWritten → List ℕ → Type 0
+PackHeadSeen head out r after = ResultSeen writtenNumbers (packHeadInto head out) r after
+
+abbrev pub OpenTapeSeen : (key tape out : List ℕ) → HtOpened → List ℕ → Type 0
+OpenTapeSeen key tape out r after = ResultSeen openedNumbers (openTape key tape out) r after
+
+abbrev pub ListTapeSeen : (key tape out : List ℕ) → HtWritten → List ℕ → Type 0
+ListTapeSeen key tape out r after = ResultSeen writtenNumbers (putInto (listing key tape) out) r after
+
+-- and those that are lent no output
+
+abbrev pub UnpackTicketSeen : List ℕ → HtUnpackedTicket → Type 0
+UnpackTicketSeen packed r = r ≡ ticketNumbers (unpackTicket packed)
+
+abbrev pub UnpackHeadSeen : List ℕ → HtUnpackedHead → Type 0
+UnpackHeadSeen packed r = r ≡ headNumbers (unpackHead packed)
+
 -- what a reading comes to, in numbers
 abbrev pub readNumbers : ReadOutcome → HtReading
 readNumbers o = readingNumbers (o .answer) (o .next .position)
+
+abbrev pub ReadTicketSeen : (plain : List ℕ) (position : ℕ) → HtReading → Type 0
+ReadTicketSeen plain position r = r ≡ readNumbers (readNext (readerAt plain position))

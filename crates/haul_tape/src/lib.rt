@@ -8,36 +8,30 @@ use c_answers::HtUnpackedHead;
 use c_answers::HtUnpackedTicket;
 use c_answers::HtWritten;
 use c_answers::answered;
+use c_answers::left_unchanged;
 use c_answers::opened;
 use c_answers::reading;
-use c_answers::sent_back;
 use c_answers::unpacked_head;
 use c_answers::unpacked_ticket;
 use c_answers::written;
 use session::Reply;
 use session::Session;
-use tape::Writer;
-use tape::WriterReply;
 use tape_model::Head;
 use tape_model::Ticket;
+use tape_writer::Writer;
+use tape_writer::WriterReply;
 ghost use mathlib.Core.Path.{_≡_};
 ghost use mathlib.Core.List.{[]};
 ghost use Rattle.acorn_model.specs.declared.Kind.the-variants.{Sealing, Checking};
-ghost use Rattle.calls.specs.Calls.{answerReply, putInto};
+ghost use Rattle.calls.specs.Calls.{answerReply};
 ghost use Rattle.acorn_model.specs.Machine as machine;
-ghost use Rattle.acorn_model.specs.Message.{sealMessage, openMessage};
-ghost use Rattle.tape_model.specs.Ticket.{packTicketInto, unpackTicket, packHeadInto, unpackHead};
-ghost use Rattle.tape_model.specs.Tape.{openTape};
 ghost use Rattle.tape_model.specs.Writer as plain;
-ghost use Rattle.tape_model.specs.Reader.{readNext};
-ghost use Rattle.tape_model.specs.Listing.{listing as tapeListing};
 ghost use Rattle.session.specs.Contracts.{sessionOutcome};
 ghost use Rattle.session.specs.Words.{wordsFor};
-ghost use Rattle.tape.specs.Contracts as tape;
-ghost use Rattle.tape.specs.Words.{writerWordsFor};
-ghost use Rattle.reader.specs.Contracts.{readerAt};
-ghost use Rattle.c_answers.specs.Answers.{writtenNumbers, answerNumbers, openedNumbers, ticketNumbers, headNumbers};
-ghost use Rattle.haul_tape.specs.Contracts.{readNumbers, wordsAfter, SessionSeen, WriterSeen, ResultSeen};
+ghost use Rattle.tape_writer.specs.Contracts as tape;
+ghost use Rattle.tape_writer.specs.Words.{writerWordsFor};
+ghost use Rattle.c_answers.specs.Answers.{answerNumbers};
+ghost use Rattle.haul_tape.specs.Contracts.{wordsAfter, SessionSeen, WriterSeen, SealSeen, OpenSeen, PackTicketSeen, UnpackTicketSeen, PackHeadSeen, UnpackHeadSeen, OpenTapeSeen, ReadTicketSeen, ListTapeSeen};
 
 // ---- whole messages ----
 
@@ -49,7 +43,7 @@ pub extern "C" fn ht_seal(
     text: &[u8],
     out: &mut [u8],
 ) -> HtWritten
-    ensures { λ r. ⌜ ResultSeen writtenNumbers (sealMessage (now (key .entry)) (now (nonce .entry)) (now («data» .entry)) (now (text .entry)) (now (out .entry))) r (now (out .exit)) ⌝ }
+    ensures { λ r. ⌜ SealSeen (now (key .entry)) (now (nonce .entry)) (now («data» .entry)) (now (text .entry)) (now (out .entry)) r (now (out .exit)) ⌝ }
 {
     written(message::seal(key, nonce, data, text, out))
 }
@@ -62,7 +56,7 @@ pub extern "C" fn ht_open(
     sealed: &[u8],
     out: &mut [u8],
 ) -> HtWritten
-    ensures { λ r. ⌜ ResultSeen writtenNumbers (openMessage (now (key .entry)) (now (nonce .entry)) (now («data» .entry)) (now (sealed .entry)) (now (out .entry))) r (now (out .exit)) ⌝ }
+    ensures { λ r. ⌜ OpenSeen (now (key .entry)) (now (nonce .entry)) (now («data» .entry)) (now (sealed .entry)) (now (out .entry)) r (now (out .exit)) ⌝ }
 {
     written(message::open(key, nonce, data, sealed, out))
 }
@@ -83,7 +77,7 @@ pub extern "C" fn ht_session_fresh_checking(s: &mut [u64; 10])
     *s = Session::fresh(Kind::Checking).words();
 }
 
-// The session after a call goes into its words, unless the call was sent back; and the answer into numbers.
+// The session after a call goes into its words, unless the call left it unchanged; and the answer into numbers.
 fn session_handed_back(s: &mut [u64; 10], reply: Reply) -> HtAnswer
     ensures { λ r. ⌜ r ≡ answerNumbers (answerReply (reply .answer)) ⌝ }
     ensures { λ _. ⌜ now (s .exit) ≡ wordsAfter wordsFor (now (s .entry)) (sessionOutcome reply []) ⌝ }
@@ -91,7 +85,7 @@ fn session_handed_back(s: &mut [u64; 10], reply: Reply) -> HtAnswer
     let after = reply.session;
     let answer = reply.answer;
     let told = answered(answer);
-    if sent_back(answer) {
+    if left_unchanged(answer) {
         return told;
     }
     *s = after.words();
@@ -150,28 +144,28 @@ pub extern "C" fn ht_session_check_close(s: &mut [u64; 10], tag: &[u8]) -> HtAns
 
 #[no_mangle]
 pub extern "C" fn ht_pack_ticket(ticket: Ticket, out: &mut [u8]) -> HtWritten
-    ensures { λ r. ⌜ ResultSeen writtenNumbers (packTicketInto ticket (now (out .entry))) r (now (out .exit)) ⌝ }
+    ensures { λ r. ⌜ PackTicketSeen ticket (now (out .entry)) r (now (out .exit)) ⌝ }
 {
     written(ticket::pack_ticket(ticket, out))
 }
 
 #[no_mangle]
 pub extern "C" fn ht_unpack_ticket(packed: &[u8]) -> HtUnpackedTicket
-    ensures { λ r. ⌜ r ≡ ticketNumbers (unpackTicket (now (packed .entry))) ⌝ }
+    ensures { λ r. ⌜ UnpackTicketSeen (now (packed .entry)) r ⌝ }
 {
     unpacked_ticket(ticket::unpack_ticket(packed))
 }
 
 #[no_mangle]
 pub extern "C" fn ht_pack_head(head: Head, out: &mut [u8]) -> HtWritten
-    ensures { λ r. ⌜ ResultSeen writtenNumbers (packHeadInto head (now (out .entry))) r (now (out .exit)) ⌝ }
+    ensures { λ r. ⌜ PackHeadSeen head (now (out .entry)) r (now (out .exit)) ⌝ }
 {
     written(ticket::pack_head(head, out))
 }
 
 #[no_mangle]
 pub extern "C" fn ht_unpack_head(packed: &[u8]) -> HtUnpackedHead
-    ensures { λ r. ⌜ r ≡ headNumbers (unpackHead (now (packed .entry))) ⌝ }
+    ensures { λ r. ⌜ UnpackHeadSeen (now (packed .entry)) r ⌝ }
 {
     unpacked_head(ticket::unpack_head(packed))
 }
@@ -185,7 +179,7 @@ pub extern "C" fn ht_writer_fresh(w: &mut [u64; 12])
     *w = Writer::fresh().words();
 }
 
-// The writer after a call goes into its words, unless the call was sent back; and the answer into numbers.
+// The writer after a call goes into its words, unless the call left it unchanged; and the answer into numbers.
 fn writer_handed_back(w: &mut [u64; 12], reply: WriterReply) -> HtAnswer
     ensures { λ r. ⌜ r ≡ answerNumbers (answerReply (reply .answer)) ⌝ }
     ensures { λ _. ⌜ now (w .exit) ≡ wordsAfter writerWordsFor (now (w .entry)) (tape.writerOutcome reply []) ⌝ }
@@ -193,7 +187,7 @@ fn writer_handed_back(w: &mut [u64; 12], reply: WriterReply) -> HtAnswer
     let after = reply.writer;
     let answer = reply.answer;
     let told = answered(answer);
-    if sent_back(answer) {
+    if left_unchanged(answer) {
         return told;
     }
     *w = after.words();
@@ -237,9 +231,9 @@ pub extern "C" fn ht_writer_finish(w: &mut [u64; 12], out: &mut [u8]) -> HtAnswe
 
 #[no_mangle]
 pub extern "C" fn ht_open_tape(key: &[u8], tape: &[u8], out: &mut [u8]) -> HtOpened
-    ensures { λ r. ⌜ ResultSeen openedNumbers (openTape (now (key .entry)) (now (tape .entry)) (now (out .entry))) r (now (out .exit)) ⌝ }
+    ensures { λ r. ⌜ OpenTapeSeen (now (key .entry)) (now (tape .entry)) (now (out .entry)) r (now (out .exit)) ⌝ }
 {
-    opened(tape::open_tape(key, tape, out))
+    opened(tape_opening::open_tape(key, tape, out))
 }
 
 fn index(n: u64) -> usize
@@ -250,14 +244,14 @@ fn index(n: u64) -> usize
 
 #[no_mangle]
 pub extern "C" fn ht_read_ticket(plain: &[u8], position: u64) -> HtReading
-    ensures { λ r. ⌜ r ≡ readNumbers (readNext (readerAt (now (plain .entry)) position)) ⌝ }
+    ensures { λ r. ⌜ ReadTicketSeen (now (plain .entry)) position r ⌝ }
 {
     reading(reader::read_at(plain, index(position)))
 }
 
 #[no_mangle]
 pub extern "C" fn ht_list_tape(key: &[u8], tape: &[u8], out: &mut [u8]) -> HtWritten
-    ensures { λ r. ⌜ ResultSeen writtenNumbers (putInto (tapeListing (now (key .entry)) (now (tape .entry))) (now (out .entry))) r (now (out .exit)) ⌝ }
+    ensures { λ r. ⌜ ListTapeSeen (now (key .entry)) (now (tape .entry)) (now (out .entry)) r (now (out .exit)) ⌝ }
 {
     written(listing::list_tape(key, tape, out))
 }

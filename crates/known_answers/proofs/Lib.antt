@@ -1,3 +1,4 @@
 pub mod StepNumbers
 pub mod Messages
 pub mod Answers
+pub mod Tape

@@ -10,7 +10,7 @@ use Rattle.calls.specs.Calls.{_if_else_}
 use Rattle.tape_model.specs.declared.Ticket.{Ticket}
 use Rattle.tape_model.specs.declared.Head.{Head}
 use Rattle.tape_model.specs.Ticket.{net}
-use Rattle.tape_model.specs.Listing.{space, lineEnd, wordTape, wordTotal, wordRefused, decimalBelow, decimal, numbers, headLine, listedNumbers, ticketLine, totalsLine, refusedLine}
+use Rattle.tape_model.specs.Listing.{space, lineEnd, wordTape, wordTotal, wordRefused, decimalBelow, decimal, numbers, headLine, listedNumbers, ticketLine, lineOfTotals, refusedLine}
 use Rattle.tape_model.proofs.Listing.{decimal-one, decimal-more}
 
 -- ## Digits
@@ -62,7 +62,7 @@ head-length h =
       no-numbers,
     )
 
-pub totals-length : (tickets total : ℕ) → length (totalsLine tickets total) ≡ 8 + length (decimal tickets) + length (decimal total)
+pub totals-length : (tickets total : ℕ) → length (lineOfTotals tickets total) ≡ 8 + length (decimal tickets) + length (decimal total)
 totals-length tickets total = omega (arith, line-length wordTotal (tickets ∷ total ∷ []), number-length tickets (total ∷ []), number-length total [], no-numbers)
 
 pub ticket-length : (p : ℕ) (t : Ticket) → length (ticketLine p t)

@@ -1,25 +1,21 @@
 -- No listing is longer than 190,054 bytes: a head's line has at most 32, a ticket's line 38, and the line of totals 22.
 use mathlib.Core.Path.{_≡_, refl, ap, subst}
 use mathlib.Core.List.{List, [], _∷_, _++_}
-use Prim.Native.Nat.{ℕ, zero, suc, _+_, _*_, _^_, _≤_, _<_}
+use Prim.Native.Nat.{ℕ, zero, suc, _+_, _*_, _/_, _^_, _≤_, _<_}
 use native.Mathlib.Omega.{arith}
-use lib.Dec.{eqb}
 use lib.ListN.{length, take, drop, replicate, length-append}
-use Rattle.calls.specs.Calls.{Reply, refused, done}
-use Rattle.calls.proofs.Choices.{both}
+use Rattle.calls.specs.Calls.{Reply, refused, done, isRefused}
 use Rattle.tape_model.specs.declared.Ticket.{Ticket}
 use Rattle.tape_model.specs.declared.Head.{Head}
-use Rattle.tape_model.specs.Format.{widths, inRanges, unpack}
-use Rattle.tape_model.specs.Ticket.{form1, ticketLength, ticketOf, ordered, valuesRule, net, unpackTicket, headFormat, headLength, headOf, unpackHead}
-use Rattle.tape_model.specs.Tape.{ticketLimit, unpackTickets, ticketsIn, totalNet, headBytes, ticketCount, plainBytes, openTapeRefusal}
+use Rattle.tape_model.specs.Ticket.{ticketLength, net, ticketValuesIn, unpackTicket, headOf, headValuesIn, unpackHead}
+use Rattle.tape_model.specs.Tape.{ticketLimit, unpackTickets, plainTickets, ticketsIn, totalNet, headBytes, plainBytes, openTapeRefusal}
 use Rattle.tape_model.specs.Listing.{headLine, ticketLine, ticketLines, totalLine, refusedLine, listed, listingUnless, listing}
-use Rattle.tape_model.proofs.Ranges.{in-ranges}
-use Rattle.tape_model.proofs.Inverses.{unpack-passed}
-use Rattle.tape_model.proofs.Opening.{size, tickets-good}
+use Rattle.tape_model.proofs.Tickets.{ranges-of, ticket-told, head-told}
+use Rattle.tape_model.proofs.Plain.{plain-held}
 use Rattle.tape_model.proofs.Listing.{decimal-length}
 use Rattle.listing.specs.Contracts.{textRoom}
 use Rattle.listing.proofs.LineLengths.{digits-room, refused-length, head-length, totals-length, ticket-length}
-use Rattle.tape_model.proofs.Unpacking.{taken-apart, unpacked-count, told}
+use Rattle.tape_model.proofs.Unpacking.{taken-apart, told, held-unpack, held-few}
 
 -- ## Lines
 
@@ -78,11 +74,10 @@ head-line-length h d s t = omega (arith, head-length h, decimal-length 9 (h .dev
 -- ## What unpacks is short
 
 ticket-short : (string : List ℕ) (t : Ticket) → unpackTicket string ≡ done t → Short t
-unfolding unpackTicket valuesRule net
+unfolding net
 ticket-short string t e =
-    let vs = unpack (widths form1) string in
-    let p = unpack-passed 8 (eqb (length string) ticketLength) (valuesRule vs) (ticketOf vs) t e in
-    let r = in-ranges form1 vs (both (inRanges form1 vs) (ordered (ticketOf vs)) (p .1) .0) in
+    let p = ticket-told string t e in
+    let r = ranges-of (ticketValuesIn string) (p .1) in
     subst Short (p .2)
     (record {
       truck-short = omega (arith, r .1 .0 .1);
@@ -103,12 +98,10 @@ all-short (suc n) string ts e =
     (λ t us f g. (ticket-short (take ticketLength string) t f, all-short n (drop ticketLength string) us g))
 
 head-short : (string : List ℕ) (h : Head) → unpackHead string ≡ done h → length (headLine h) ≤ 32
-unfolding unpackHead
 head-short string h e =
-    let vs = unpack (widths headFormat) string in
-    let p = unpack-passed 3 (eqb (length string) headLength) (inRanges headFormat vs) (headOf vs) h e in
-    let r = in-ranges headFormat vs (p .1) in
-    subst (λ (g : Head). length (headLine g) ≤ 32) (p .2) (head-line-length (headOf vs) (omega (arith, r .0 .1)) (omega (arith, r .1 .0 .1)) (omega (arith, r .1 .1 .0 .1)))
+    let p = head-told string h e in
+    let r = p .1 in
+    subst (λ (g : Head). length (headLine g) ≤ 32) (p .2) (head-line-length (headOf (headValuesIn string)) (omega (arith, r .0 .1)) (omega (arith, r .1 .0 .1)) (omega (arith, r .1 .1 .0 .1)))
 
 -- ## The listing
 
@@ -124,7 +117,7 @@ longest key tape = by (openTapeRefusal key tape (replicate (length tape) 0)) ref
   where
     by : (n : ℕ) → openTapeRefusal key tape (replicate (length tape) 0) ≡ n → length (listingUnless n key tape) ≤ textRoom
     by zero e =
-        let t = told (unpackTickets (ticketCount tape) (plainBytes key tape)) (tickets-good key tape _ e) in
-        listed-length (unpackHead (headBytes tape)) _ (head-short (headBytes tape))
-        (omega (arith, unpacked-count (ticketCount tape) (plainBytes key tape) _ t, size key tape _ e .few)) (all-short (ticketCount tape) (plainBytes key tape) _ t)
+        let plain = plainBytes key tape in
+        let held = told (plainTickets plain) (ap isRefused (plain-held key tape _ e)) in
+        listed-length (unpackHead (headBytes tape)) _ (head-short (headBytes tape)) (held-few plain _ held .1) (all-short (length plain / ticketLength) plain _ (held-unpack plain _ held))
     by (suc n) e = omega (arith, refused-line-length (suc n))

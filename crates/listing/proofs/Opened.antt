@@ -7,17 +7,18 @@ use native.Mathlib.Omega.{arith}
 use lib.Dec.{eqb}
 use lib.ListN.{length, take, replicate, length-replicate}
 use borrow.Author.Tests.{le-ltb}
-use Rattle.calls.specs.Calls.{_if_else_, Reply, refused, done, writtenOver, Result}
+use Rattle.calls.specs.Calls.{_if_else_, Reply, refused, done, writtenOver, Result, isRefused}
 use Rattle.acorn_model.specs.Machine.{keyLength}
 use Rattle.calls.proofs.Results.{refused-told, done-told}
 use Rattle.tape_model.specs.declared.Ticket.{Ticket}
 use Rattle.tape_model.specs.declared.Head.{Head}
 use Rattle.tape_model.specs.Ticket.{ticketLength, unpackHead}
-use Rattle.tape_model.specs.Tape.{unpackTickets, isRefused, ticketsIn, totalNet, Totals, isTapeLength, headBytes, ticketCount, plainBytes, openTapeRefusal, openTape}
+use Rattle.tape_model.specs.Tape.{plainTickets, ticketsIn, totalNet, Totals, isTapeLength, headBytes, ticketCount, plainBytes, openTapeRefusal, openTape}
 use Rattle.tape_model.specs.Listing.{refusedLine, listed, listingUnless, listing}
-use Rattle.tape_model.proofs.Opening.{TapeSize, sizes-told, text-length, tickets-good, plain-count, plain-sized, was-accepted, net-is, front}
-use Rattle.tape.specs.Contracts.{scratchAfter, openScratch}
-use Rattle.listing.specs.Contracts.{PlainTickets, unpacked, longestPlain}
+use Rattle.tape_model.proofs.Opening.{TapeSize, sizes-told, text-length, was-accepted, net-is, front}
+use Rattle.tape_opening.specs.Contracts.{scratchAfter, openScratch}
+use Rattle.listing.specs.Contracts.{longestPlain, HoldTickets}
+use Rattle.tape_model.proofs.Plain.{ticketsOn, plain-held}
 
 -- ## Opening into a scratch
 
@@ -73,29 +74,21 @@ module _ (key tape : List ℕ) where
 
   -- where no number applies
   module _ (out : List ℕ) (accepted : openTapeRefusal key tape out ≡ 0) where
-    plain-unpacked : unpacked (plainBytes key tape) ≡ unpackTickets (ticketCount tape) (plainBytes key tape)
-    unfolding unpacked
-    plain-unpacked = ap (λ (n : ℕ). unpackTickets n (plainBytes key tape)) (plain-count key tape out accepted)
-
-    plain-tickets : PlainTickets (plainBytes key tape) (totalNet (ticketsIn (unpackTickets (ticketCount tape) (plainBytes key tape))))
+    plain-tickets : HoldTickets (plainBytes key tape) (totalNet (ticketsOn key tape))
     plain-tickets =
-        record {
-          sized = plain-sized key tape out accepted;
-          good = ap isRefused plain-unpacked ∙ tickets-good key tape out accepted;
-          net-is = ap (λ (r : Reply (List Ticket)). totalNet (ticketsIn r)) (sym plain-unpacked);
-        }
+        let held = plain-held key tape out accepted in
+        record { good = ap isRefused held; net-is = ap (λ (r : Reply (List Ticket)). totalNet (ticketsIn r)) (sym held) }
 
   -- what opening answers and writes, and the listing by it
   module _ (out : List ℕ) (k : Totals) (after : List ℕ) (room : longestPlain ≤ length out) (e : openTape key tape out ≡ record { answer = done k; out = after }) where
     accepted : openTapeRefusal key tape out ≡ 0
     accepted = was-accepted key tape out k after e
 
-    pub opened-tickets : PlainTickets (take (ticketLength * k .tickets) after) (k .net)
+    pub opened-tickets : HoldTickets (take (ticketLength * k .tickets) after) (k .net)
     opened-tickets = rw (front key tape out k after e, net-is key tape out k after e) (plain-tickets out accepted)
 
-    pub opened-listing : (head : Reply Head) → head ≡ unpackHead (headBytes tape) → listed head (ticketsIn (unpacked (take (ticketLength * k .tickets) after))) ≡ listing key tape
+    pub opened-listing : (head : Reply Head) → head ≡ unpackHead (headBytes tape) → listed head (ticketsIn (plainTickets (take (ticketLength * k .tickets) after))) ≡ listing key tape
     unfolding listing listingUnless
     opened-listing head h =
-        ap₂ (λ (r : Reply Head) (l : List ℕ). listed r (ticketsIn (unpacked l))) h (front key tape out k after e)
-        ∙ ap (λ (r : Reply (List Ticket)). listed (unpackHead (headBytes tape)) (ticketsIn r)) (plain-unpacked out accepted)
+        ap₂ (λ (r : Reply Head) (l : List ℕ). listed r (ticketsIn (plainTickets l))) h (front key tape out k after e)
         ∙ ap (λ (n : ℕ). listingUnless n key tape) (sym accepted ∙ room-enough out room)

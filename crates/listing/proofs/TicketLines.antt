@@ -1,13 +1,12 @@
 -- A ticket's line from its parts, and the lines of the tickets that are left.
 use mathlib.Core.Path.{_≡_, refl, sym, ap, _∙_}
-use mathlib.Core.Bool.{true, false}
+use mathlib.Core.Bool.{false}
 use mathlib.Core.List.{List, [], _∷_, _++_, append-assoc, append-nil}
-use Prim.Native.Nat.{ℕ, suc, _+_, _-_, _/_, _%_, _≤_, _<_}
+use Prim.Native.Nat.{ℕ, suc, _+_, _-_, _/_, _≤_, _<_}
 use native.Mathlib.Omega.{arith}
-use lib.Dec.{eqb}
 use lib.ListN.{length, getD, take, drop, length-append, take-append-drop}
 use lib.Seq.{take-all, take-suc, length-take-le}
-use borrow.Author.Tests.{lt-leb, leb-true}
+use borrow.Author.Tests.{lt-leb}
 use borrow.Rule.Slice.PartMut.{putMid}
 use Rattle.tape_model.specs.declared.Ticket.{Ticket}
 use mathlib.Core.Logic.{_⊎_, ⊎-elim}
@@ -15,13 +14,12 @@ use denote.Enum.Declared.{declared, tagOf}
 use Rattle.tape_model.specs.declared.NextTicket.{NextTicket}
 use Rattle.tape_model.specs.declared.NextTicket.the-variants.{Refused, Done, End}
 use Rattle.tape_model.proofs.NextTicket.{enum as next-ticket}
-use Rattle.calls.specs.Calls.{done}
-use Rattle.calls.proofs.Choices.{both}
-use Rattle.tape_model.specs.Tape.{ticketLimit, isTicketsLength, unpackTickets, isRefused, ticketsIn}
+use Rattle.calls.specs.Calls.{done, isRefused}
+use Rattle.tape_model.specs.Tape.{ticketLimit, plainTickets, ticketsIn}
 use Rattle.tape_model.specs.Reader.{ticket, handedOut, readNext, nextReply}
 use Rattle.tape_model.specs.Listing.{lineEnd, decimal, numbers, listedNumbers, ticketLine, ticketLines}
-use Rattle.tape_model.proofs.Unpacking.{unpacked-count, unpacked-at, told}
-use Rattle.listing.specs.Contracts.{Wrote, unpacked, linesOf}
+use Rattle.tape_model.proofs.Unpacking.{unpacked-at, told, held-size, held-unpack, held-count, held-few}
+use Rattle.listing.specs.Contracts.{Wrote, linesOf}
 use Rattle.listing.proofs.Texts.{wrote-as, behind-start, behind-room, behind-wrote, behind-within}
 
 -- ## One line
@@ -63,20 +61,18 @@ lines-joined p (t ∷ ts) us =
     ap (λ (l : List ℕ). ticketLine p t ++ l) (lines-joined (p + 1) ts us ∙ ap (λ (q : ℕ). ticketLines (p + 1) ts ++ ticketLines q us) {x = p + 1 + length ts} {y = p + suc (length ts)} (omega arith))
     ∙ sym (append-assoc (ticketLine p t) (ticketLines (p + 1) ts) (ticketLines (p + suc (length ts)) us))
 
-module _ (plain : List ℕ) (sized : isTicketsLength (length plain) ≡ true) (good : isRefused (unpacked plain) ≡ false) where
+module _ (plain : List ℕ) (good : isRefused (plainTickets plain) ≡ false) where
   abbrev tickets : List Ticket
-  tickets = ticketsIn (unpacked plain)
+  tickets = ticketsIn (plainTickets plain)
 
-  unpacks : unpackTickets (length plain / 13) plain ≡ done tickets
-  unfolding unpacked
-  unpacks = told (unpacked plain) good
+  holds : plainTickets plain ≡ done tickets
+  holds = told (plainTickets plain) good
 
   count : length tickets ≡ length plain / 13
-  count = unpacked-count (length plain / 13) plain tickets unpacks
+  count = held-count plain tickets holds
 
   pub few : length plain / 13 ≤ ticketLimit
-  unfolding isTicketsLength
-  few = leb-true _ _ (both (eqb (length plain % 13) 0) _ sized .1)
+  few = omega (arith, count, held-few plain tickets holds .1)
 
   lines-within : (i : ℕ) → length (ticketLines 1 (take i tickets)) ≤ length (linesOf plain)
   unfolding linesOf
@@ -93,7 +89,7 @@ module _ (plain : List ℕ) (sized : isTicketsLength (length plain) ≡ true) (g
     -- what the reader hands out there
     handed : (t₀ : Ticket) → readNext (record { string = plain; position = i }) .answer ≡ done (ticket (getD tickets i t₀))
     unfolding readNext handedOut
-    handed t₀ = rw (sized, lt-leb (length plain / 13) i here, unpacked-at (length plain / 13) i plain tickets t₀ here unpacks)
+    handed t₀ = rw (held-size plain tickets holds, lt-leb (length plain / 13) i here, unpacked-at (length plain / 13) i plain tickets t₀ here (held-unpack plain tickets holds))
 
     -- so the answer is a ticket
     module _ (answer : NextTicket) (read : nextReply answer ≡ readNext (record { string = plain; position = i }) .answer) where

@@ -7,30 +7,29 @@ use lib.ListN.{length, length-append}
 use Rattle.calls.specs.Calls.{done}
 use Rattle.tape_model.specs.declared.Ticket.{Ticket}
 use Rattle.tape_model.specs.declared.Head.{Head}
-use Rattle.tape_model.specs.Tape.{ticketsIn}
-use Rattle.tape_model.specs.Listing.{headLine, totalsLine, totalLine, listed}
-use Rattle.listing.specs.Contracts.{PlainTickets, unpacked, linesOf}
-use Rattle.tape_model.proofs.Unpacking.{unpacked-count, told}
+use Rattle.tape_model.specs.Tape.{plainTickets, ticketsIn}
+use Rattle.tape_model.specs.Listing.{headLine, lineOfTotals, totalLine, listed}
+use Rattle.listing.specs.Contracts.{HoldTickets, linesOf}
+use Rattle.tape_model.proofs.Unpacking.{told, held-count}
 
-module _ (head : Head) (plain : List ℕ) (net : ℕ) (p : PlainTickets plain net) where
+module _ (head : Head) (plain : List ℕ) (net : ℕ) (p : HoldTickets plain net) where
   abbrev tickets : List Ticket
-  tickets = ticketsIn (unpacked plain)
+  tickets = ticketsIn (plainTickets plain)
 
   count : length plain / 13 ≡ length tickets
-  unfolding unpacked
-  count = let c = unpacked-count (length plain / 13) plain tickets (told (unpacked plain) (p .good)) in omega (arith, c)
+  count = sym (held-count plain tickets (told (plainTickets plain) (p .good)))
 
-  pub whole : headLine head ++ linesOf plain ++ totalsLine (length plain / 13) net ≡ listed (done head) tickets
+  pub whole : headLine head ++ linesOf plain ++ lineOfTotals (length plain / 13) net ≡ listed (done head) tickets
   unfolding listed linesOf totalLine
-  whole = ap₂ (λ (k n : ℕ). headLine head ++ linesOf plain ++ totalsLine k n) count (p .net-is)
+  whole = ap₂ (λ (k n : ℕ). headLine head ++ linesOf plain ++ lineOfTotals k n) count (p .net-is)
 
-  pub whole-length : length (listed (done head) tickets) ≡ length (headLine head) + length (linesOf plain) + length (totalsLine (length plain / 13) net)
+  pub whole-length : length (listed (done head) tickets) ≡ length (headLine head) + length (linesOf plain) + length (lineOfTotals (length plain / 13) net)
   whole-length =
-      ap length (sym whole) ∙ length-append (headLine head ++ linesOf plain) (totalsLine (length plain / 13) net)
-      ∙ ap (λ (k : ℕ). k + length (totalsLine (length plain / 13) net)) (length-append (headLine head) (linesOf plain))
+      ap length (sym whole) ∙ length-append (headLine head ++ linesOf plain) (lineOfTotals (length plain / 13) net)
+      ∙ ap (λ (k : ℕ). k + length (lineOfTotals (length plain / 13) net)) (length-append (headLine head) (linesOf plain))
 
   module _ (out : List ℕ) (room : length (listed (done head) tickets) ≤ length out) where
-    pub whole-room : length (headLine head ++ linesOf plain ++ totalsLine (length plain / 13) net) ≤ length out
+    pub whole-room : length (headLine head ++ linesOf plain ++ lineOfTotals (length plain / 13) net) ≤ length out
     whole-room = omega (arith, ap length whole)
 
     pub lines-room : length (headLine head ++ linesOf plain) ≤ length out

@@ -1,14 +1,13 @@
 -- How the listing's functions are held against the text that document 01 has printed.
 use mathlib.Core.Path.{_≡_}
-use mathlib.Core.Bool.{true, false}
+use mathlib.Core.Bool.{false}
 use mathlib.Core.List.{List}
-use Prim.Native.Nat.{ℕ, _*_, _/_}
+use Prim.Native.Nat.{ℕ, _*_}
 use lib.ListN.{length}
 use Rattle.calls.specs.declared.Written.{Written}
-use Rattle.calls.specs.Calls.{Reply, writtenReply, writtenOver, putInto}
-use Rattle.tape_model.specs.declared.Ticket.{Ticket}
+use Rattle.calls.specs.Calls.{writtenReply, writtenOver, putInto, isRefused}
 use Rattle.tape_model.specs.Ticket.{ticketLength}
-use Rattle.tape_model.specs.Tape.{ticketLimit, isTicketsLength, unpackTickets, isRefused, ticketsIn, totalNet}
+use Rattle.tape_model.specs.Tape.{ticketLimit, plainTickets, ticketsIn, totalNet}
 use Rattle.tape_model.specs.Listing.{ticketLines}
 
 -- the text was written over the start of `before`, its length answered, and `after` is what stands there now
@@ -30,15 +29,11 @@ longestPlain = ticketLength * ticketLimit
 
 -- ## What the private functions cite
 
--- the tickets in opened bytes, and their lines
-unfoldable pub unpacked : List ℕ → Reply (List Ticket)
-unpacked plain = unpackTickets (length plain / ticketLength) plain
-
+-- the lines of the tickets that opened bytes hold
 unfoldable pub linesOf : List ℕ → List ℕ
-linesOf plain = ticketLines 1 (ticketsIn (unpacked plain))
+linesOf plain = ticketLines 1 (ticketsIn (plainTickets plain))
 
--- bytes that unpack to tickets of this total net
-pub record PlainTickets (plain : List ℕ) (total : ℕ) : Type 0 where
-  pub sized : isTicketsLength (length plain) ≡ true
-  pub good : isRefused (unpacked plain) ≡ false
-  pub net-is : total ≡ totalNet (ticketsIn (unpacked plain))
+-- bytes that hold tickets of this total net
+pub record HoldTickets (plain : List ℕ) (total : ℕ) : Type 0 where
+  pub good : isRefused (plainTickets plain) ≡ false
+  pub net-is : total ≡ totalNet (ticketsIn (plainTickets plain))

@@ -10,8 +10,8 @@ use Rattle.acorn_model.specs.Machine.{keyLength}
 use Rattle.tape_model.specs.declared.Ticket.{Ticket}
 use Rattle.tape_model.specs.declared.Head.{Head}
 use Rattle.tape_model.specs.Ticket.{ticketLength, headRule}
-use Rattle.tape_model.specs.Tape.{ticketLimit, emptyTapeLength, tapeOf}
-use Rattle.tape_model.specs.Listing.{headLine, ticketLines, totalLine, refusedLine, listing, printed}
+use Rattle.tape_model.specs.Tape.{ticketLimit, emptyTapeLength, tapeOf, totalNet}
+use Rattle.tape_model.specs.Listing.{headLine, ticketLines, lineOfTotals, refusedLine, listing, printed}
 use Rattle.tape_model.specs.Laws.{Valid}
 use Rattle.listing.specs.Contracts.{Listed, textRoom}
 
@@ -28,7 +28,7 @@ pub record ListingFacts : Type 0 where
   -- the input of a key of 16 bytes and a tape of at most 5,000 valid tickets gives the lines of its head, its tickets and its totals
   pub tapes : (key : List ℕ) (head : Head) (tickets : List Ticket) → length key ≡ keyLength → headRule head ≡ true → Valid tickets → length tickets ≤ ticketLimit
       → (out : List ℕ) (answer : Written) (after : List ℕ) → textRoom ≤ length out → Listed (printed (key ++ tapeOf key head tickets)) out answer after
-      → after ≡ writtenOver (headLine head ++ ticketLines 1 tickets ++ totalLine tickets) out
+      → after ≡ writtenOver (headLine head ++ ticketLines 1 tickets ++ lineOfTotals (length tickets) (totalNet tickets)) out
   -- an input of more than 65,041 bytes is refused with 2: so a program that has read one byte more need not read on
   pub too-long : (input : List ℕ) → longestInput < length input → printed input ≡ refusedLine 2
   pub read-enough : (input : List ℕ) (n : ℕ) → longestInput < n → n ≤ length input → printed (take n input) ≡ printed input

@@ -2,15 +2,16 @@
 use reader::read_at;
 use tape_model::Head;
 use tape_model::NextTicket;
+use tape_model::TICKET_LENGTH;
 use tape_model::Ticket;
 ghost use mathlib.Core.Path.{_≡_};
-ghost use mathlib.Core.Bool.{true, false};
+ghost use mathlib.Core.Bool.{false};
 ghost use Prim.Native.Nat.{_≤_};
 ghost use lib.ListN.{length};
-ghost use Rattle.calls.specs.Calls.{done};
-ghost use Rattle.tape_model.specs.Tape.{isTicketsLength, isRefused, ticketsIn};
+ghost use Rattle.calls.specs.Calls.{done, isRefused};
+ghost use Rattle.tape_model.specs.Tape.{plainTickets, ticketsIn};
 ghost use Rattle.tape_model.specs.Listing as model;
-ghost use Rattle.listing.specs.Contracts.{PlainTickets, unpacked, linesOf};
+ghost use Rattle.listing.specs.Contracts.{HoldTickets, linesOf};
 
 // How many digits a number has: at most 20, so that no sum of a few such lengths wraps.
 fn decimal_length(n: u64) -> usize
@@ -43,7 +44,7 @@ fn head_line_length(head: Head) -> usize
 }
 
 fn total_line_length(tickets: usize, net: u64) -> usize
-    ensures { λ r. ⌜ r ≡ length (model.totalsLine tickets net) ⌝ }
+    ensures { λ r. ⌜ r ≡ length (model.lineOfTotals tickets net) ⌝ }
     ensures { λ r. ⌜ r ≤ 48 ⌝ }
 {
     8 + decimal_length(tickets as u64) + decimal_length(net)
@@ -66,11 +67,11 @@ fn ticket_line_length(position: usize, t: Ticket) -> usize
 
 // The length of the lines of the tickets in opened bytes.
 fn ticket_lines_length(plain: &[u8]) -> usize
-    requires { ⌜ (isTicketsLength (length (now plain)) ≡ true) × (isRefused (unpacked (now plain)) ≡ false) ⌝ }
+    requires { ⌜ isRefused (plainTickets (now plain)) ≡ false ⌝ }
     ensures { λ r. ⌜ r ≡ length (linesOf (now (plain .entry))) ⌝ }
     ensures { λ r. ⌜ r ≤ 840000 ⌝ }
 {
-    let tickets = plain.len() / 13;
+    let tickets = plain.len() / TICKET_LENGTH;
     let mut i: usize = 0;
     let mut sum: usize = 0;
     while i < tickets {
@@ -87,11 +88,11 @@ fn ticket_lines_length(plain: &[u8]) -> usize
 
 // The length of the listing of a tape with this head that opened to these bytes.
 pub(crate) fn listed_length(head: Head, plain: &[u8], net: u64) -> usize
-    requires { ⌜ PlainTickets (now plain) net ⌝ }
-    ensures { λ r. ⌜ r ≡ length (model.listed (done head) (ticketsIn (unpacked (now (plain .entry))))) ⌝ }
+    requires { ⌜ HoldTickets (now plain) net ⌝ }
+    ensures { λ r. ⌜ r ≡ length (model.listed (done head) (ticketsIn (plainTickets (now (plain .entry))))) ⌝ }
 {
     let first = head_line_length(head);
     let tickets = ticket_lines_length(plain);
-    let last = total_line_length(plain.len() / 13, net);
+    let last = total_line_length(plain.len() / TICKET_LENGTH, net);
     first + tickets + last
 }

@@ -3,6 +3,7 @@ mod lengths;
 mod lines;
 mod text;
 
+use acorn_model::KEY_LENGTH;
 use calls::Written;
 use lengths::listed_length;
 use lengths::refused_line_length;
@@ -10,19 +11,25 @@ use lines::put_head_line;
 use lines::put_refused_line;
 use lines::put_ticket_lines;
 use lines::put_total_line;
-use tape::open_scratch;
+use tape_model::HEAD_LENGTH;
 use tape_model::Head;
 use tape_model::OpenedTape;
+use tape_model::TICKET_LENGTH;
+use tape_model::TICKET_LIMIT;
 use tape_model::UnpackedHead;
+use tape_opening::open_scratch;
 ghost use mathlib.Core.Path.{_≡_};
 ghost use Prim.Native.Nat.{_≤_};
 ghost use lib.ListN.{length, replicate};
 ghost use Rattle.calls.specs.Calls.{done};
 ghost use Rattle.acorn_model.specs.Machine.{keyLength};
 ghost use Rattle.tape_model.specs.Ticket.{headReply};
-ghost use Rattle.tape_model.specs.Tape.{ticketsIn};
+ghost use Rattle.tape_model.specs.Tape.{plainTickets, ticketsIn};
 ghost use Rattle.tape_model.specs.Listing as model;
-ghost use Rattle.listing.specs.Contracts.{Wrote, Listed, PlainTickets, unpacked, textRoom, longestPlain};
+ghost use Rattle.listing.specs.Contracts.{Wrote, Listed, HoldTickets, textRoom, longestPlain};
+
+// The plain bytes of the most tickets.
+const LONGEST_PLAIN: usize = TICKET_LENGTH * TICKET_LIMIT;
 
 // Room for the text of every tape.
 pub fn text_buffer() -> [u8; 190054]
@@ -33,21 +40,21 @@ pub fn text_buffer() -> [u8; 190054]
 }
 
 // Room for the plain bytes of every tape.
-fn plain_buffer() -> [u8; 65000]
+fn plain_buffer() -> [u8; LONGEST_PLAIN]
     ensures { λ r. ⌜ length r ≡ longestPlain ⌝ }
 {
-    [0; 65000]
+    [0; LONGEST_PLAIN]
 }
 
 // The listing of a tape with this head that opened to these bytes.
 fn put_listed(head: Head, plain: &[u8], net: u64, out: &mut [u8]) -> usize
-    requires { ⌜ PlainTickets (now plain) net × (length (model.listed (done head) (ticketsIn (unpacked (now plain)))) ≤ length (now out)) ⌝ }
-    ensures { λ r. ⌜ Wrote (model.listed (done head) (ticketsIn (unpacked (now (plain .entry))))) (now (out .entry)) r (now (out .exit)) ⌝ }
+    requires { ⌜ HoldTickets (now plain) net × (length (model.listed (done head) (ticketsIn (plainTickets (now plain)))) ≤ length (now out)) ⌝ }
+    ensures { λ r. ⌜ Wrote (model.listed (done head) (ticketsIn (plainTickets (now (plain .entry))))) (now (out .entry)) r (now (out .exit)) ⌝ }
 {
     let a = put_head_line(head, out);
     let b = put_ticket_lines(plain, &mut out[a..]);
     let at = a + b;
-    let c = put_total_line(plain.len() / 13, net, &mut out[at..]);
+    let c = put_total_line(plain.len() / TICKET_LENGTH, net, &mut out[at..]);
     at + c
 }
 
@@ -64,8 +71,8 @@ fn list_refused(number: u8, out: &mut [u8]) -> Written
 
 // The listing of a tape with this head that opened to these bytes: 6 where the output is too short for it.
 fn list_tickets(head: Head, plain: &[u8], net: u64, out: &mut [u8]) -> Written
-    requires { ⌜ PlainTickets (now plain) net ⌝ }
-    ensures { λ r. ⌜ Listed (model.listed (done head) (ticketsIn (unpacked (now (plain .entry))))) (now (out .entry)) r (now (out .exit)) ⌝ }
+    requires { ⌜ HoldTickets (now plain) net ⌝ }
+    ensures { λ r. ⌜ Listed (model.listed (done head) (ticketsIn (plainTickets (now (plain .entry))))) (now (out .entry)) r (now (out .exit)) ⌝ }
 {
     let n = listed_length(head, plain, net);
     if out.len() < n {
@@ -76,8 +83,8 @@ fn list_tickets(head: Head, plain: &[u8], net: u64, out: &mut [u8]) -> Written
 
 // The same, by what the head's bytes unpacked to.
 fn list_opened(head: UnpackedHead, plain: &[u8], net: u64, out: &mut [u8]) -> Written
-    requires { ⌜ PlainTickets (now plain) net ⌝ }
-    ensures { λ r. ⌜ Listed (model.listed (headReply head) (ticketsIn (unpacked (now (plain .entry))))) (now (out .entry)) r (now (out .exit)) ⌝ }
+    requires { ⌜ HoldTickets (now plain) net ⌝ }
+    ensures { λ r. ⌜ Listed (model.listed (headReply head) (ticketsIn (plainTickets (now (plain .entry))))) (now (out .entry)) r (now (out .exit)) ⌝ }
 {
     match head {
         UnpackedHead::Refused(number) => list_refused(number, out),
@@ -93,8 +100,8 @@ fn list_by(key: &[u8], tape: &[u8], plain: &mut [u8], out: &mut [u8]) -> Written
     match open_scratch(key, tape, plain) {
         OpenedTape::Refused(number) => list_refused(number, out),
         OpenedTape::Done(tickets, net) => {
-            let n = 13 * tickets;
-            let head = ticket::unpack_head(&tape[..9]);
+            let n = TICKET_LENGTH * tickets;
+            let head = ticket::unpack_head(&tape[..HEAD_LENGTH]);
             list_opened(head, &plain[..n], net, out)
         }
     }
@@ -116,7 +123,7 @@ pub fn list_tape(key: &[u8], tape: &[u8], out: &mut [u8]) -> Written
 fn key_end(n: usize) -> usize
     ensures { λ r. ⌜ (n ≤ keyLength → r ≡ n) × (keyLength ≤ n → r ≡ keyLength) ⌝ }
 {
-    if n < 16 { n } else { 16 }
+    if n < KEY_LENGTH { n } else { KEY_LENGTH }
 }
 
 // The same of a program's input: the key's 16 bytes, and then a tape.

@@ -5,14 +5,16 @@ use super::text::put_rest;
 use reader::read_at;
 use tape_model::Head;
 use tape_model::NextTicket;
+use tape_model::TICKET_LENGTH;
 use tape_model::Ticket;
 ghost use mathlib.Core.Path.{_≡_};
-ghost use mathlib.Core.Bool.{true, false};
+ghost use mathlib.Core.Bool.{false};
 ghost use Prim.Native.Nat.{_≤_};
 ghost use lib.ListN.{length};
-ghost use Rattle.tape_model.specs.Tape.{isTicketsLength, isRefused};
+ghost use Rattle.tape_model.specs.Tape.{plainTickets};
+ghost use Rattle.calls.specs.Calls.{isRefused};
 ghost use Rattle.tape_model.specs.Listing as model;
-ghost use Rattle.listing.specs.Contracts.{Wrote, unpacked, linesOf};
+ghost use Rattle.listing.specs.Contracts.{Wrote, linesOf};
 
 pub(crate) fn put_refused_line(number: u8, out: &mut [u8]) -> usize
     requires { ⌜ length (model.refusedLine number) ≤ length (now out) ⌝ }
@@ -31,8 +33,8 @@ pub(crate) fn put_head_line(head: Head, out: &mut [u8]) -> usize
 }
 
 pub(crate) fn put_total_line(tickets: usize, net: u64, out: &mut [u8]) -> usize
-    requires { ⌜ length (model.totalsLine tickets net) ≤ length (now out) ⌝ }
-    ensures { λ r. ⌜ Wrote (model.totalsLine tickets net) (now (out .entry)) r (now (out .exit)) ⌝ }
+    requires { ⌜ length (model.lineOfTotals tickets net) ≤ length (now out) ⌝ }
+    ensures { λ r. ⌜ Wrote (model.lineOfTotals tickets net) (now (out .entry)) r (now (out .exit)) ⌝ }
 {
     let ns = [tickets as u64, net];
     put_line(b"TOTAL", &ns, out)
@@ -65,10 +67,10 @@ pub(crate) fn put_ticket_line(position: usize, t: Ticket, out: &mut [u8]) -> usi
 
 // The lines of the tickets in opened bytes.
 pub(crate) fn put_ticket_lines(plain: &[u8], out: &mut [u8]) -> usize
-    requires { ⌜ (isTicketsLength (length (now plain)) ≡ true) × (isRefused (unpacked (now plain)) ≡ false) × (length (linesOf (now plain)) ≤ length (now out)) ⌝ }
+    requires { ⌜ (isRefused (plainTickets (now plain)) ≡ false) × (length (linesOf (now plain)) ≤ length (now out)) ⌝ }
     ensures { λ r. ⌜ Wrote (linesOf (now (plain .entry))) (now (out .entry)) r (now (out .exit)) ⌝ }
 {
-    let tickets = plain.len() / 13;
+    let tickets = plain.len() / TICKET_LENGTH;
     let mut i: usize = 0;
     let mut at: usize = 0;
     while i < tickets {

@@ -2,3 +2,4 @@
 pub mod Sealing
 pub mod Rest
 pub mod Opening
+pub mod Decrypting

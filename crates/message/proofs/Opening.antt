@@ -8,7 +8,6 @@ use lib.ListN.{length}
 use Rattle.acorn_model.specs.Bits.{Bits}
 use Rattle.calls.specs.Calls.{_if_else_, refused, done, unlessRefused, writtenOver, sameBytes, resultOf}
 use Rattle.acorn_model.specs.Stretches.{textOut, tagOf, afterData, beforeFinal}
-use Rattle.acorn_model.specs.Paper.{decrypted}
 use Rattle.acorn_model.specs.Message.{cipherPart, tagPart, tagMatches, opened, tagRefusal, openRefusal, openMessage}
 use Rattle.acorn_model.specs.Machine.{tagLength}
 use Rattle.calls.proofs.Refusals.{refused-if}
@@ -20,6 +19,17 @@ use Rattle.message.specs.Contracts.{restMatches, restOpened}
 7-or-none : (matches : Bool) (n : ℕ) → (n ≡ 0 → ⊥) → (n ≡ 7 → ⊥) → (7 if not matches else 0) ≡ n → ⊥
 7-or-none true n h0 h7 e = h0 (sym e)
 7-or-none false n h0 h7 e = h7 (sym e)
+
+-- ## All of a message as the rest of it, in the state in which its text begins
+
+module _ (key nonce «data» s : List ℕ) (S : Bits) (S-is : S ≡ afterData key nonce «data») where
+  pub all-matches : restMatches S s ≡ tagMatches key nonce «data» s
+  unfolding tagMatches restMatches
+  all-matches = ap (sameBytes (tagPart s)) (ap (λ (R : Bits). tagOf (beforeFinal true (cipherPart s) R)) S-is ∙ newTag-agrees key nonce «data» (cipherPart s))
+
+  pub all-text : textOut true (cipherPart s) S ≡ opened key nonce «data» s
+  unfolding opened
+  all-text = ap (textOut true (cipherPart s)) S-is ∙ decrypted-agrees key nonce «data» (cipherPart s)
 
 module _ (key nonce «data» s out : List ℕ) where
   -- ## The number that the sizes give
@@ -47,17 +57,15 @@ module _ (key nonce «data» s out : List ℕ) where
     -- what opening the rest of the message came to, where the rest is all of it
     module _ (S : Bits) (same : Bool) (out′ : List ℕ) (S-is : S ≡ afterData key nonce «data») (same-is : same ≡ restMatches S s) (out-is : out′ ≡ restOpened S s out) where
       verdict : same ≡ tagMatches key nonce «data» s
-      unfolding tagMatches restMatches
-      verdict = same-is ∙ ap (sameBytes (tagPart s)) (ap (λ (R : Bits). tagOf (beforeFinal true (cipherPart s) R)) S-is ∙ newTag-agrees key nonce «data» (cipherPart s))
+      verdict = same-is ∙ all-matches key nonce «data» s S S-is
 
       pub opened-by-rest : same ≡ true → openMessage key nonce «data» s out ≡ record { answer = done (length s - tagLength); out = out′ }
-      unfolding openMessage opened restOpened
+      unfolding openMessage restOpened
       opened-by-rest matches =
           let number : openRefusal key nonce «data» s out ≡ 0 = only-tag ∙ (rw (← verdict, matches)) in
-          let text : textOut true (cipherPart s) S ≡ decrypted key nonce «data» (cipherPart s) = ap (textOut true (cipherPart s)) S-is ∙ decrypted-agrees key nonce «data» (cipherPart s) in
           result-written _ _ _ out number
           ∙ ap₂ (λ (n : ℕ) (o : List ℕ). record { answer = done n; out = o }) (opened-length key nonce «data» s)
-          (sym (out-is ∙ (rw (← same-is, matches)) ∙ ap (λ (l : List ℕ). writtenOver l out) text))
+          (sym (out-is ∙ (rw (← same-is, matches)) ∙ ap (λ (l : List ℕ). writtenOver l out) (all-text key nonce «data» s S S-is)))
 
       pub refused-by-tag : same ≡ false → openMessage key nonce «data» s out ≡ record { answer = refused 7; out = out′ }
       unfolding openMessage resultOf unlessRefused restOpened

@@ -6,10 +6,10 @@ use Prim.Native.Nat.{ℕ, _+_, _-_, _≤_}
 use native.Mathlib.Omega.{arith}
 use lib.Dec.{ltb}
 use lib.ListN.{length, take, drop, length-take, length-drop}
-use borrow.Author.Tests.{eq-eqb, le-ltb}
+use borrow.Author.Tests.{le-ltb}
 use borrow.Rule.Slice.PartMut.{putMid}
 use Rattle.acorn_model.specs.Bits.{Bits}
-use Rattle.acorn_model.specs.Stretches.{through, start, zeros, textPiece, textEnd, textOut, tagOf, afterData}
+use Rattle.acorn_model.specs.Stretches.{through, textPiece, textEnd, textOut, tagOf, afterData}
 use Rattle.calls.specs.Calls.{refused, done, writtenOver}
 use Rattle.acorn_model.specs.Paper.{ciphertext, tag}
 use Rattle.acorn_model.specs.Message.{sealed, sealRefusal, sealMessage}
@@ -20,11 +20,7 @@ use Rattle.acorn_model.proofs.Outputs.{ciphertext-length, tag-length, sealed-le
 use Rattle.calls.proofs.Writing.{written-length, written-behind}
 use Rattle.acorn_model.proofs.Messages.{seal-told}
 use Rattle.calls.proofs.Results.{result-written, result-refused}
-use Rattle.acorn.specs.Runs.{TextRun, startState, tagOutput}
-
-pub start-right : (key nonce : List ℕ) → length key ≡ 16 → length nonce ≡ 16 → startState key nonce ≡ through (start key nonce) zeros
-unfolding startState
-start-right key nonce e f = rw (eq-eqb (length key) 16 e, eq-eqb (length nonce) 16 f)
+use Rattle.acorn.specs.Runs.{TextRun, tagOutput}
 
 -- the number is the answer, or tells that no number applies
 module _ (key nonce «data» text out : List ℕ) (n : ℕ) (number : n ≡ sealRefusal key nonce «data» text out) where

@@ -1,2 +1,2 @@
--- What the contracts of whole messages cite besides the model's definitions.
+-- The contracts of whole messages.
 pub mod Contracts

@@ -1,4 +1,5 @@
-// Whole messages: sealing writes ciphertext and then tag; opening takes them and writes the text, once the tag is known to match.
+// Whole messages: sealing writes ciphertext and then tag; opening takes them and writes the text, once the tag is known to match, or decrypts it
+// into a buffer of the caller's.
 use acorn::State;
 use acorn::absorb_data;
 use acorn::decrypt;
@@ -7,23 +8,27 @@ use acorn::end_text;
 use acorn::seal_text;
 use acorn::start;
 use acorn::write_tag;
+use acorn_model::BYTE_LIMIT;
+use acorn_model::KEY_LENGTH;
+use acorn_model::NONCE_LENGTH;
+use acorn_model::TAG_LENGTH;
 use calls::Written;
 use compare::same_bytes;
 use zeroize::zeroize;
 ghost use mathlib.Core.Path.{_≡_};
 ghost use Prim.Native.Nat.{_+_, _≤_, _<_};
 ghost use lib.ListN.{length, take, replicate};
-ghost use Rattle.calls.specs.Calls.{_if_else_, writtenReply, unlessRefused, writtenOver, sameBytes};
+ghost use Rattle.calls.specs.Calls.{_if_else_, unlessRefused, writtenOver, sameBytes};
 ghost use Rattle.acorn_model.specs.Stretches.{through, textEnd, tagOf, afterData};
-ghost use Rattle.acorn_model.specs.Machine.{tagLength, keyAndNonceRight};
-ghost use Rattle.acorn_model.specs.Message.{sealRefusal, sealMessage, tagRefusal, openRefusal, openMessage};
+ghost use Rattle.acorn_model.specs.Machine.{keyLength, nonceLength, tagLength, keyAndNonceRight};
+ghost use Rattle.acorn_model.specs.Message.{sealRefusal, tagRefusal, openRefusal};
 ghost use Rattle.acorn_kernel.specs.Together.{stateOf};
-ghost use Rattle.message.specs.Contracts.{restMatches, restOpened};
+ghost use Rattle.message.specs.Contracts.{Seals, OpensTo, DecryptsInto, restMatches, restOpened};
 
 fn sizes_right(key: &[u8], nonce: &[u8]) -> bool
     ensures { λ r. ⌜ r ≡ keyAndNonceRight (now (key .entry)) (now (nonce .entry)) ⌝ }
 {
-    (key.len() == 16) & (nonce.len() == 16)
+    (key.len() == KEY_LENGTH) & (nonce.len() == NONCE_LENGTH)
 }
 
 // The number that sends a sealing back; 0 where none does.
@@ -33,10 +38,13 @@ fn seal_refusal(key: &[u8], nonce: &[u8], data: &[u8], text: &[u8], out: &[u8]) 
     if !sizes_right(key, nonce) {
         return 2;
     }
-    if (65536 < data.len()) | (65536 < text.len()) {
+    if BYTE_LIMIT < data.len() {
         return 5;
     }
-    if out.len() < text.len() + 16 {
+    if BYTE_LIMIT < text.len() {
+        return 5;
+    }
+    if out.len() < text.len() + TAG_LENGTH {
         return 6;
     }
     0
@@ -46,11 +54,17 @@ fn seal_refusal(key: &[u8], nonce: &[u8], data: &[u8], text: &[u8], out: &[u8]) 
 fn open_refusal(key: &[u8], nonce: &[u8], data: &[u8], sealed: &[u8], out: &[u8]) -> u8
     ensures { λ r. ⌜ openRefusal (now (key .entry)) (now (nonce .entry)) (now («data» .entry)) (now (sealed .entry)) (now (out .entry)) ≡ unlessRefused r (tagRefusal (now (key .entry)) (now (nonce .entry)) (now («data» .entry)) (now (sealed .entry))) r ⌝ }
 {
-    if !sizes_right(key, nonce) | (sealed.len() < 16) {
+    if !sizes_right(key, nonce) {
         return 2;
     }
-    let n = sealed.len() - 16;
-    if (65536 < data.len()) | (65536 < n) {
+    if sealed.len() < TAG_LENGTH {
+        return 2;
+    }
+    let n = sealed.len() - TAG_LENGTH;
+    if BYTE_LIMIT < data.len() {
+        return 5;
+    }
+    if BYTE_LIMIT < n {
         return 5;
     }
     if out.len() < n {
@@ -61,7 +75,7 @@ fn open_refusal(key: &[u8], nonce: &[u8], data: &[u8], sealed: &[u8], out: &[u8]
 
 // The state in which the text begins.
 fn after_data(key: &[u8], nonce: &[u8], data: &[u8]) -> State
-    requires { ⌜ (length (now key) ≡ 16) × (length (now nonce) ≡ 16) ⌝ }
+    requires { ⌜ (length (now key) ≡ keyLength) × (length (now nonce) ≡ nonceLength) ⌝ }
     ensures { λ r. ⌜ stateOf r ≡ afterData (now (key .entry)) (now (nonce .entry)) (now («data» .entry)) ⌝ }
 {
     end_data(absorb_data(start(key, nonce), data))
@@ -70,7 +84,7 @@ fn after_data(key: &[u8], nonce: &[u8], data: &[u8]) -> State
 // Writes the ciphertext of the text, and then the tag. 2: key or nonce not of 16 bytes; 5: data or text over 65,536 bytes; 6: an output
 // without room for the text and 16 bytes more.
 pub fn seal(key: &[u8], nonce: &[u8], data: &[u8], text: &[u8], out: &mut [u8]) -> Written
-    ensures { λ r. ⌜ sealMessage (now (key .entry)) (now (nonce .entry)) (now («data» .entry)) (now (text .entry)) (now (out .entry)) ≡ record { answer = writtenReply r; out = now (out .exit) } ⌝ }
+    ensures { λ r. ⌜ Seals (now (key .entry)) (now (nonce .entry)) (now («data» .entry)) (now (text .entry)) (now (out .entry)) r (now (out .exit)) ⌝ }
 {
     let number = seal_refusal(key, nonce, data, text, out);
     if number != 0 {
@@ -79,7 +93,7 @@ pub fn seal(key: &[u8], nonce: &[u8], data: &[u8], text: &[u8], out: &mut [u8]) 
     let n = text.len();
     let s = seal_text(after_data(key, nonce, data), text, out);
     write_tag(end_text(s), &mut out[n..]);
-    let written = n + 16;
+    let written = n + TAG_LENGTH;
     Written::Done(written)
 }
 
@@ -119,7 +133,7 @@ fn open_rest(s: State, sealed: &[u8], out: &mut [u8]) -> bool
     ensures { λ r. ⌜ r ≡ restMatches (stateOf s) (now (sealed .entry)) ⌝ }
     ensures { λ _. ⌜ now (out .exit) ≡ restOpened (stateOf s) (now (sealed .entry)) (now (out .entry)) ⌝ }
 {
-    let left = sealed.len() - 16;
+    let left = sealed.len() - TAG_LENGTH;
     let n = piece_length(left);
     let mut scratch = [0; 2048];
     let next = decrypt(s, &sealed[..n], &mut scratch);
@@ -138,7 +152,7 @@ fn open_all(s: State, sealed: &[u8], out: &mut [u8]) -> bool
     ensures { λ r. ⌜ r ≡ restMatches (stateOf s) (now (sealed .entry)) ⌝ }
     ensures { λ _. ⌜ now (out .exit) ≡ restOpened (stateOf s) (now (sealed .entry)) (now (out .entry)) ⌝ }
 {
-    if sealed.len() == 16 {
+    if sealed.len() == TAG_LENGTH {
         return tag_is(s, sealed);
     }
     open_rest(s, sealed, out)
@@ -147,16 +161,40 @@ fn open_all(s: State, sealed: &[u8], out: &mut [u8]) -> bool
 // Writes the text that ciphertext and tag open to. 2: key or nonce not of 16 bytes, or fewer sealed bytes than 16; 5: data or text over 65,536
 // bytes; 6: an output without room for the text; 7: a tag that differs.
 pub fn open(key: &[u8], nonce: &[u8], data: &[u8], sealed: &[u8], out: &mut [u8]) -> Written
-    ensures { λ r. ⌜ openMessage (now (key .entry)) (now (nonce .entry)) (now («data» .entry)) (now (sealed .entry)) (now (out .entry)) ≡ record { answer = writtenReply r; out = now (out .exit) } ⌝ }
+    ensures { λ r. ⌜ OpensTo (now (key .entry)) (now (nonce .entry)) (now («data» .entry)) (now (sealed .entry)) (now (out .entry)) r (now (out .exit)) ⌝ }
 {
     let number = open_refusal(key, nonce, data, sealed, out);
     if number != 0 {
         return Written::Refused(number);
     }
     if open_all(after_data(key, nonce, data), sealed, out) {
-        let n = sealed.len() - 16;
+        let n = sealed.len() - TAG_LENGTH;
         Written::Done(n)
     } else {
         Written::Refused(7)
     }
+}
+
+// Decrypts the text of sealed bytes into a buffer of the caller's that nobody else reads, and says whether their tag matches; where it does not, the
+// buffer is all zeros. False, and nothing is written, where key or nonce is not of 16 bytes, there are fewer sealed bytes than 16, or the buffer
+// has no room for the text.
+pub fn decrypt_into(key: &[u8], nonce: &[u8], data: &[u8], sealed: &[u8], buffer: &mut [u8]) -> bool
+    ensures { λ r. ⌜ DecryptsInto (now (key .entry)) (now (nonce .entry)) (now («data» .entry)) (now (sealed .entry)) (now (buffer .entry)) r (now (buffer .exit)) ⌝ }
+{
+    if !sizes_right(key, nonce) {
+        return false;
+    }
+    if sealed.len() < TAG_LENGTH {
+        return false;
+    }
+    let n = sealed.len() - TAG_LENGTH;
+    if buffer.len() < n {
+        return false;
+    }
+    let s = decrypt(after_data(key, nonce, data), &sealed[..n], buffer);
+    let good = tag_is(s, &sealed[n..]);
+    if !good {
+        zeroize(buffer);
+    }
+    good
 }

@@ -12,7 +12,7 @@ use Rattle.tape_model.specs.declared.Ticket.{Ticket}
 use Rattle.tape_model.specs.Ticket.{unpackTicket}
 use Rattle.tape_model.specs.Tape.{isTicketsLength}
 use Rattle.tape_model.specs.Reader.{atEnd, stays, handedOut, readNext}
-use Rattle.ticket.proofs.Summing.{refused-by-8}
+use Rattle.tape_model.proofs.Unpacking.{refused-by-8}
 use Rattle.reader.specs.Contracts.{readerAt}
 
 -- r: whether the bytes are of a right size

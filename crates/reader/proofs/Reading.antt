@@ -8,21 +8,24 @@ use lib.Dec.{leb}
 use lib.ListN.{length, take, drop}
 use lib.Seq.{take-nil, take-at, drop-drop}
 use denote.Ref.{RefT, now}
-use Rattle.calls.specs.Calls.{_if_else_, Reply, refused, done, writtenOver}
+use Rattle.calls.specs.Calls.{_if_else_, Reply, refused, done, writtenOver, unlessRefused, isRefused}
+use Rattle.acorn_model.specs.Machine.{keyLength}
 use Rattle.acorn_model.specs.RefusalCases.{string}
 use Rattle.tape_model.specs.declared.Ticket.{Ticket}
+use Rattle.tape_model.specs.declared.Head.{Head}
 use Rattle.tape_model.specs.declared.NextTicket.{NextTicket}
 use Rattle.tape_model.specs.declared.NextTicket.the-variants.{Refused, Done, End}
 use Rattle.tape_model.specs.declared.OpenedTape.the-variants.{Done as TapeDone}
-use Rattle.tape_model.specs.Ticket.{ordered, valuesRule, packTicket, unpackTicket}
-use Rattle.tape_model.specs.Tape.{packTickets, isTicketsLength, ticketThen, isRefused, unpackTickets, ticketsIn, totalNet, Totals, ticketCount, plainBytes, openTape, openedReply}
+use Rattle.tape_model.specs.Ticket.{ticketLength, ordered, valuesRule, packTicket, unpackTicket, headRule}
+use Rattle.tape_model.specs.Tape.{ticketLimit, packTickets, tapeOf, isTicketsLength, ticketThen, unpackTickets, plainTickets, totalNet, Totals, openTape, openedReply}
 use Rattle.tape_model.specs.Reader as model
 use Rattle.tape_model.specs.Reader.{Reading, ticket, atEnd, ReadOutcome, stays, handedOut, readerOver, readNext, nextReply}
 use Rattle.tape_model.specs.RefusalCases.{goodTicket, lastByteC1}
-use Rattle.tape_model.specs.Laws.{readings, readerAfter}
-use Rattle.tape_model.proofs.Tapes.{tickets-length, tickets-unpack, length-allowed, tapes-come-back}
-use Rattle.tape_model.proofs.Unpacking.{unpacked-count, told}
-use Rattle.tape_model.proofs.Opening.{tickets-good, plain-length, was-accepted, count-is, net-is, few-tickets, front}
+use Rattle.tape_model.specs.Laws.{Valid, readings, readerAfter}
+use Rattle.tape_model.proofs.Tapes.{tickets-length, tickets-held, tapes-come-back}
+use Rattle.tape_model.proofs.Unpacking.{sized-hold, held-size, held-unpack, held-count, refused-size, only-2}
+use Rattle.tape_model.proofs.Opening.{net-is}
+use Rattle.tape_model.proofs.Plain.{ticketsOn, opened-held, opened-many}
 use Rattle.reader.specs.declared.Reader.{Reader}
 use Rattle.reader.specs.declared.ReaderReply.{ReaderReply}
 use Rattle.reader.specs.Contracts.{readerAt, readerOf, readerOutcome, NextCalled}
@@ -105,7 +108,7 @@ callable bytes n =
 
 module _ (s : List ℕ) (last : Reply Reading) where
   -- what lies before the reader: tickets that it hands out, and then what it answers without moving
-  abbrev Ahead : ℕ → List Ticket → Type 0
+  abbrev pub Ahead : ℕ → List Ticket → Type 0
   Ahead p [] = readNext (readerAt s p) ≡ stays (readerAt s p) last
   Ahead p (t ∷ ts) = (readNext (readerAt s p) ≡ record { next = readerAt s (p + 1); answer = done (ticket t) }) × Ahead (p + 1) ts
 
@@ -143,6 +146,48 @@ module _ (s : List ℕ) (last : Reply Reading) (sized : isTicketsLength (length 
             (subst (λ (k : ℕ). Ahead s last k []) {x = p + suc (length ts)} {y = p + 1 + length ts} (omega arith) a),
       )
 
+-- bytes that are these tickets and no more
+pub tickets-ahead : (s : List ℕ) (ts : List Ticket) → plainTickets s ≡ done ts → Ahead s (done atEnd) 0 ts
+tickets-ahead s ts h =
+    let sized = held-size s ts h in
+    let count = held-count s ts h in
+    ahead s (done atEnd) sized 0 ts (omega (arith, count)) (ap (λ (n : ℕ). unpackTickets n s) count ∙ held-unpack s ts h)
+    (sym (no-more s (0 + length ts) true (sym sized) refl (omega (arith, count))))
+
+-- what opening a tape wrote is its tickets
+pub opened-tickets : (key : List ℕ) (head : Head) (ts : List Ticket) → length key ≡ keyLength → headRule head ≡ true → Valid ts → length ts ≤ ticketLimit
+    → (out : List ℕ) → ticketLength * length ts ≤ length out → plainTickets (take (ticketLength * length ts) (openTape key (tapeOf key head ts) out .out)) ≡ done ts
+unfolding writtenOver
+opened-tickets key head ts k h v n out room =
+    let left = (λ i. take (ticketLength * length ts) (tapes-come-back key head ts k h v n .opens out room i .out)) ∙ take-at (packTickets ts) _ _ (tickets-length ts) in
+    ap plainTickets left ∙ tickets-held ts v n
+
+-- tickets that unpack, and then one that does not
+record FirstBad (n : ℕ) (s : List ℕ) : Type 0 where
+  before : List Ticket
+  fewer : length before < n
+  unpack : unpackTickets (length before) s ≡ done before
+  bad : isRefused (unpackTicket (take 13 (drop (13 * length before) s))) ≡ true
+
+first-bad : (n : ℕ) (s : List ℕ) (k : ℕ) → unpackTickets n s ≡ refused k → FirstBad n s
+unfolding unpackTickets
+first-bad zero s k e = let z : _≡_ {A = ℕ} 0 1 = cc in absurd (omega arith)
+first-bad (suc n) s k e = by (unpackTicket (take 13 s)) (unpackTickets n (drop 13 s)) refl (first-bad n (drop 13 s)) e
+  where
+    by : (r : Reply Ticket) (others : Reply (List Ticket)) → unpackTicket (take 13 s) ≡ r → ((m : ℕ) → others ≡ refused m → FirstBad n (drop 13 s)) → ticketThen r others ≡ refused k
+        → FirstBad (suc n) s
+    by (refused m) others u rest h = record { before = []; fewer = omega arith; unpack = refl; bad = ap isRefused u }
+    by (done t) (refused m) u rest h =
+        let f = rest m refl in
+        let i = length (f .before) in
+        record {
+          before = t ∷ f .before;
+          fewer = omega (arith, f .fewer);
+          unpack = ap₂ ticketThen u (f .unpack);
+          bad = ap (λ (l : List ℕ). isRefused (unpackTicket (take 13 l))) (ap (λ (j : ℕ). drop j s) {x = 13 * suc i} {y = 13 + 13 * i} (omega arith) ∙ sym (drop-drop (13 * i) 13 s)) ∙ f .bad;
+        }
+    by (done t) (done ts) u rest h = let z : _≡_ {A = ℕ} 0 1 = cc in absurd (omega arith)
+
 number : (x : Reply Ticket) → isRefused x ≡ true → (n : ℕ) × (refused n ≡ x)
 number (refused n) e = (n, refl)
 number (done t) e = let z : _≡_ {A = ℕ} 0 1 = cc in absurd (omega arith)
@@ -164,27 +209,18 @@ module _ (bytes : RefT (List ℕ)) where
   begins ts last sized room u a =
       hands-out ts last (ahead s last sized 0 ts (omega arith) u (subst (λ (k : ℕ). Ahead s last k []) {x = length ts} {y = 0 + length ts} (omega arith) a))
 
-  whole : (ts : List Ticket) → length s ≡ 13 * length ts → length ts ≤ 5000 → unpackTickets (length ts) s ≡ done ts → HandsOut bytes ts (done atEnd)
-  whole ts size few u =
-      let sized : isTicketsLength (length s) ≡ true = ap isTicketsLength size ∙ length-allowed (length ts) few in
-      begins ts (done atEnd) sized (omega arith) u (sym (no-more s (length ts) true (sym sized) refl (omega arith)))
+  whole : (ts : List Ticket) → plainTickets s ≡ done ts → HandsOut bytes ts (done atEnd)
+  whole ts h = hands-out ts (done atEnd) (tickets-ahead s ts h)
 
   opened : (key tape out after : List ℕ) (n net : ℕ) → openTape key tape out ≡ record { answer = openedReply (TapeDone n net); out = after } → s ≡ take (13 * n) after
       → (ts : List Ticket) × (length ts ≡ n) × (totalNet ts ≡ net) × HandsOut bytes ts (done atEnd)
   unfolding openedReply
   opened key tape out after n net e here =
-      let k : Totals = record { tickets = n; net = net } in
-      let good = was-accepted key tape out k after e in
-      let plain : s ≡ plainBytes key tape = here ∙ front key tape out k after e in
-      let u = told (unpackTickets (ticketCount tape) (plainBytes key tape)) (tickets-good key tape out good) in
-      let ts = ticketsIn (unpackTickets (ticketCount tape) (plainBytes key tape)) in
-      let c = unpacked-count (ticketCount tape) (plainBytes key tape) ts u in
-      let count = count-is key tape out k after e in (
-        ts,
-        omega (arith, c, count),
+      let k : Totals = record { tickets = n; net = net } in (
+        ticketsOn key tape,
+        opened-many key tape out k after e,
         sym (net-is key tape out k after e),
-        whole ts (ap length plain ∙ plain-length key tape out good ∙ ap (λ (m : ℕ). 13 * m) (sym c)) (omega (arith, c, count, few-tickets key tape out k after e))
-            (ap₂ unpackTickets c plain ∙ u),
+        whole (ticketsOn key tape) (ap plainTickets here ∙ opened-held key tape out k after e),
       )
 
   bad-ticket : (ts : List Ticket) → isTicketsLength (length s) ≡ true → length ts < length s / 13 → unpackTickets (length ts) s ≡ done ts
@@ -194,7 +230,7 @@ module _ (bytes : RefT (List ℕ)) where
       begins ts (refused 8) sized (omega arith) u (sym (not-unpacked s (length ts) true (sym sized) refl 13 here refl (x .0) (x .1)))
 
   last-byte-C1 : s ≡ packTicket goodTicket ++ lastByteC1 → HandsOut bytes (goodTicket ∷ []) (refused 8)
-  unfolding isTicketsLength unpackTickets unpackTicket packTicket valuesRule ordered
+  unfolding isTicketsLength unpackTickets unpackTicket unlessRefused packTicket valuesRule ordered
   last-byte-C1 e =
       let n : length s ≡ 26 = ap length e in
       bad-ticket (goodTicket ∷ []) (ap (λ (l : List ℕ). isTicketsLength (length l)) e) (omega arith) (ap (unpackTickets 1) e)
@@ -205,7 +241,6 @@ module _ (bytes : RefT (List ℕ)) where
   too-short e = hands-out [] (refused 2) (sym (wrong-size s 0 false (sym (ap (λ (l : List ℕ). isTicketsLength (length l)) e)) refl))
 
   laws : ReadingLaws bytes
-  unfolding writtenOver
   laws =
       record {
         callable = callable bytes;
@@ -213,13 +248,14 @@ module _ (bytes : RefT (List ℕ)) where
         as-defined = as-defined bytes;
         whole = whole;
         tape = λ key head ts k h v n out after o room opened e.
-            let left : after ≡ packTickets ts ++ drop (length (packTickets ts)) out =
-            λ i. (sym opened ∙ tapes-come-back key head ts k h v n .opens out room) i .out in
-            let plain : s ≡ packTickets ts = e ∙ ap (take (13 * length ts)) left ∙ take-at (packTickets ts) _ _ (tickets-length ts) in
-            whole ts (ap length plain ∙ tickets-length ts) n (ap (unpackTickets (length ts)) plain ∙ tickets-unpack ts v);
+            whole ts (ap plainTickets (e ∙ (λ i. take (ticketLength * length ts) (sym opened i .out))) ∙ opened-tickets key head ts k h v n out room);
         opened = opened;
-        wrong-size = λ wrong. hands-out [] (refused 2) (sym (wrong-size s 0 false (sym wrong) refl));
+        wrong-size = λ wrong. hands-out [] (refused 2) (sym (wrong-size s 0 false (sym (only-2 s wrong)) refl));
         bad-ticket = bad-ticket;
+        stops = λ h.
+            let sized = refused-size s 8 h (λ e. omega arith) in
+            let f = first-bad (length s / 13) s 8 (sym (sized-hold s sized) ∙ h) in
+            (f .before, bad-ticket (f .before) sized (f .fewer) (f .unpack) (f .bad));
         last-byte-C1 = last-byte-C1;
         too-short = too-short;
       }

@@ -1,12 +1,12 @@
 -- What comes of reading, by the contracts of `Reader::new` and `Reader::next`: a reader over the bytes that opening a tape wrote hands out the
 -- tape's tickets in turn, and then stays at the end; and what it does over other bytes.
 use mathlib.Core.Path.{_≡_}
-use mathlib.Core.Bool.{true, false}
+use mathlib.Core.Bool.{true}
 use mathlib.Core.List.{List, [], _∷_, _++_}
 use Prim.Native.Nat.{ℕ, zero, suc, _*_, _/_, _≤_, _<_}
 use lib.ListN.{length, take, drop}
 use denote.Ref.{RefT, now}
-use Rattle.calls.specs.Calls.{Reply, refused, done}
+use Rattle.calls.specs.Calls.{Reply, refused, done, isRefused}
 use Rattle.acorn_model.specs.Machine.{keyLength}
 use Rattle.acorn_model.specs.RefusalCases.{string}
 use Rattle.tape_model.specs.declared.Ticket.{Ticket}
@@ -14,7 +14,7 @@ use Rattle.tape_model.specs.declared.Head.{Head}
 use Rattle.tape_model.specs.declared.OpenedTape.{OpenedTape}
 use Rattle.tape_model.specs.declared.OpenedTape.the-variants.{Done}
 use Rattle.tape_model.specs.Ticket.{ticketLength, packTicket, unpackTicket, headRule}
-use Rattle.tape_model.specs.Tape.{ticketLimit, tapeOf, isTicketsLength, isRefused, unpackTickets, totalNet, openTape, openedReply}
+use Rattle.tape_model.specs.Tape.{ticketLimit, tapeOf, isTicketsLength, unpackTickets, plainTickets, totalNet, openTape, openedReply}
 use Rattle.tape_model.specs.Reader.{Reading, ticket, atEnd, readerOver, nextReply}
 use Rattle.tape_model.specs.RefusalCases.{goodTicket, lastByteC1}
 use Rattle.tape_model.specs.Laws.{Valid, readings, readerAfter}
@@ -58,9 +58,8 @@ pub record ReadingLaws (bytes : RefT (List ℕ)) : Type 0 where
   -- the answers are those of document 01's reader, and the reader handed back last stands for the one that it comes to
   pub as-defined : (answers : List (Reply Reading)) (e : Reader) → ReaderList bytes answers e
       → (answers ≡ readings (length answers) (readerOver (now bytes))) × (readerOf e ≡ readerAfter (length answers) (readerOver (now bytes)))
-  -- over the bytes of at most 5,000 tickets that unpack: these, and then the end
-  pub whole : (tickets : List Ticket) → length (now bytes) ≡ ticketLength * length tickets → length tickets ≤ ticketLimit
-      → unpackTickets (length tickets) (now bytes) ≡ done tickets → HandsOut bytes tickets (done atEnd)
+  -- over bytes that hold tickets: these, and then the end
+  pub whole : (tickets : List Ticket) → plainTickets (now bytes) ≡ done tickets → HandsOut bytes tickets (done atEnd)
   -- over the bytes that opening a tape wrote: the tape's tickets, and then the end
   pub tape : (key : List ℕ) (head : Head) (tickets : List Ticket) → length key ≡ keyLength → headRule head ≡ true → Valid tickets → length tickets ≤ ticketLimit
       → (out after : List ℕ) (o : OpenedTape) → ticketLength * length tickets ≤ length out
@@ -71,12 +70,14 @@ pub record ReadingLaws (bytes : RefT (List ℕ)) : Type 0 where
       → now bytes ≡ take (ticketLength * n) after
       → (tickets : List Ticket) × (length tickets ≡ n) × (totalNet tickets ≡ net) × HandsOut bytes tickets (done atEnd)
   -- over bytes of a wrong size: 2
-  pub wrong-size : isTicketsLength (length (now bytes)) ≡ false → HandsOut bytes [] (refused 2)
+  pub wrong-size : plainTickets (now bytes) ≡ refused 2 → HandsOut bytes [] (refused 2)
   -- over bytes in which a ticket behind others does not unpack: these, and then 8
   pub bad-ticket : (before : List Ticket) → isTicketsLength (length (now bytes)) ≡ true → length before < length (now bytes) / ticketLength
       → unpackTickets (length before) (now bytes) ≡ done before
       → isRefused (unpackTicket (take ticketLength (drop (ticketLength * length before) (now bytes)))) ≡ true
       → HandsOut bytes before (refused 8)
+  -- over all other bytes: some tickets, and then 8
+  pub stops : plainTickets (now bytes) ≡ refused 8 → (before : List Ticket) × HandsOut bytes before (refused 8)
   -- document 01's example behind a good ticket: that ticket, and then 8
   pub last-byte-C1 : now bytes ≡ packTicket goodTicket ++ lastByteC1 → HandsOut bytes (goodTicket ∷ []) (refused 8)
   -- 12 bytes: 2

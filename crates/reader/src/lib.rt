@@ -4,6 +4,7 @@ ghost use mathlib.Core.Path.{_≡_};
 ghost use Rattle.tape_model.specs.Reader.{readNext};
 ghost use Rattle.reader.specs.Contracts.{readerAt, readOutcome, Made, NextCalled};
 use tape_model::NextTicket;
+use tape_model::TICKET_LENGTH;
 use tape_model::UnpackedTicket;
 use ticket::is_tickets_length;
 
@@ -24,14 +25,14 @@ pub fn read_at(bytes: &[u8], position: usize) -> ReadAt
             answer: NextTicket::Refused(2),
         };
     }
-    if size / 13 <= position {
+    if size / TICKET_LENGTH <= position {
         return ReadAt {
             position,
             answer: NextTicket::End,
         };
     }
-    let at = 13 * position;
-    let end = at + 13;
+    let at = TICKET_LENGTH * position;
+    let end = at + TICKET_LENGTH;
     let UnpackedTicket::Done(t) = ticket::unpack_ticket(&bytes[at..end]) else {
         return ReadAt {
             position,

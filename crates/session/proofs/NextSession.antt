@@ -13,7 +13,7 @@ use Rattle.acorn_model.specs.declared.Phase.the-variants.{Text, Closed}
 use Rattle.acorn_model.specs.Bits.{Bits}
 use Rattle.calls.specs.Calls.{_if_else_, writtenOver}
 use Rattle.acorn_model.specs.Stretches.{through, zeros, dataEnd, textPiece, textEnd, final, textOut}
-use Rattle.acorn_model.specs.Machine.{Machine, isSealing, isChecking, isData, runThrough, enter, cleared, countText, dataEnded, textTaken, textEnded, closed}
+use Rattle.acorn_model.specs.Machine.{Machine, withSteps, withState, withCounts, isSealing, isChecking, isData, runThrough, enter, cleared, countText, dataEnded, textTaken, textEnded, closed}
 use Rattle.acorn_kernel.specs.declared.State.{State}
 use Rattle.acorn_kernel.specs.Together.{stateOf}
 use Rattle.session.specs.declared.Session.{Session}
@@ -42,13 +42,7 @@ ended-steps-small phase = by (isData phase)
 
 module _ (m : Machine) where
   abbrev endedIf : Bool → Machine
-  endedIf t =
-      record {
-        kind = m .kind;
-        phase = m .phase;
-        state = through dataEnd (m .state) if t else m .state;
-        counts = record { dataBytes = m .counts .dataBytes; textBytes = m .counts .textBytes; steps = m .counts .steps + (dataEnd .steps if t else 0) };
-      }
+  endedIf t = withCounts (withSteps (m .counts .steps + (dataEnd .steps if t else 0)) (m .counts)) (withState (through dataEnd (m .state) if t else m .state) m)
 
   data-ended : dataEnded m ≡ endedIf (isData (m .phase))
   unfolding dataEnded

@@ -1,4 +1,4 @@
--- Counts that wrap around at 2 ^ 64. A call on a machine whose count wrapped around comes to the same once the count wraps around
+-- Counts that wrap around at 2 ^ 64. A call on a machine whose count wrapped around comes to the same once every count wraps around
 -- (`wrapped-call`); an outcome whose count is below 2 ^ 64 stays as it is (`call-within`), and what a session's call comes to is then what the
 -- machine does.
 use mathlib.Core.Path.{_≡_, refl, sym, ap, ap₂, _∙_}
@@ -7,11 +7,12 @@ use mathlib.Core.List.{List, []}
 use Prim.Native.Nat.{ℕ, zero, suc, _+_, _%_, _<_, _^_}
 use native.Mathlib.Nat.{mod-eq-of-lt}
 use native.Mathlib.Omega.{arith}
+use borrow.Author.Tests.{ne-eqb}
 use lib.ListN.{length}
 use Rattle.acorn_model.specs.declared.Phase.the-variants.{Data, Text, Closed}
-use Rattle.calls.specs.Calls.{_if_else_, Work, unlessRefused, sameBytes, Outcome, refusedWith}
+use Rattle.calls.specs.Calls.{_if_else_, Work, unlessRefused, leftUnchanged, sameBytes, Outcome, refusedWith}
 use Rattle.acorn_model.specs.Stretches.{Stretch, through, start, dataPiece, dataEnd, textPiece, textEnd, final, textOut, tagOf}
-use Rattle.acorn_model.specs.Machine.{Machine, Call, begin, dataCall, sealText, checkText, sealClose, checkClose, outputOf, isChecking, isData, phaseAllows, overLimit, refusal, runThrough, enter, cleared, countData, countText, begun, dataTaken, dataEnded, textTaken, textEnded, closed, answered, wrote, verdict, work, call}
+use Rattle.acorn_model.specs.Machine.{Machine, withSteps, withState, withCounts, Call, begin, dataCall, sealText, checkText, sealClose, checkClose, outputOf, isChecking, isData, phaseAllows, overLimit, refusal, runThrough, enter, cleared, countData, countText, begun, dataTaken, dataEnded, textTaken, textEnded, closed, answered, wrote, verdict, work, call}
 use Rattle.session.specs.declared.Session.{Session}
 use Rattle.session.specs.declared.Reply.{Reply as SessionReply}
 use Rattle.session.specs.Contracts.{machineOf, sessionOutcome, wrapped, wrappedMachine, wrappedReply, wrappedOutcome, Called}
@@ -23,20 +24,38 @@ abbrev pub judged : Bool → Machine → Outcome Machine Work
 judged good m = record { next = m; answer = verdict good m; out = [] }
 
 pub wrote-wrapped : (written out : List ℕ) (m : Machine) → wrappedOutcome (wrote written m out) ≡ wrote written (wrappedMachine m) out
-unfolding wrappedOutcome wrappedMachine wrappedReply wrote answered
+unfolding wrappedOutcome wrappedMachine wrappedReply wrote answered leftUnchanged
 wrote-wrapped written out m = refl
 
-wrote-same : (v w out : List ℕ) (a b : Machine) → v ≡ w → wrappedMachine a ≡ wrappedMachine b → wrappedOutcome (wrote v a out) ≡ wrappedOutcome (wrote w b out)
-wrote-same v w out a b d e = wrote-wrapped v out a ∙ ap₂ (λ (x : List ℕ) (m : Machine). wrote x m out) d e ∙ sym (wrote-wrapped w out b)
-
 pub judged-wrapped : (good : Bool) (m : Machine) → wrappedOutcome (judged good m) ≡ judged good (wrappedMachine m)
-unfolding wrappedOutcome wrappedMachine wrappedReply verdict answered
+unfolding wrappedOutcome wrappedMachine wrappedReply verdict answered leftUnchanged
 judged-wrapped true m = refl
 judged-wrapped false m = refl
 
-pub refused-wrapped : (n : ℕ) (out : List ℕ) (m : Machine) → wrappedOutcome (refusedWith n m out) ≡ refusedWith n (wrappedMachine m) out
-unfolding wrappedOutcome wrappedReply refusedWith
-refused-wrapped n out m = refl
+-- a call that was sent back left the machine as it was
+pub refused-stays : (n : ℕ) (out : List ℕ) (m : Machine) → (n ≡ 7 → ⊥) → wrappedOutcome (refusedWith n m out) ≡ refusedWith n m out
+unfolding wrappedOutcome wrappedReply refusedWith leftUnchanged
+refused-stays n out m h = rw (ne-eqb n 7 h)
+
+-- every count wrapped around, also that of a call that was sent back
+abbrev pub allWrapped : Outcome Machine Work → Outcome Machine Work
+allWrapped o = record { next = wrappedMachine (o .next); answer = wrappedReply (o .answer); out = o .out }
+
+wrote-all : (written out : List ℕ) (m : Machine) → allWrapped (wrote written m out) ≡ wrote written (wrappedMachine m) out
+unfolding wrappedMachine wrappedReply wrote answered
+wrote-all written out m = refl
+
+wrote-same : (v w out : List ℕ) (a b : Machine) → v ≡ w → wrappedMachine a ≡ wrappedMachine b → allWrapped (wrote v a out) ≡ allWrapped (wrote w b out)
+wrote-same v w out a b d e = wrote-all v out a ∙ ap₂ (λ (x : List ℕ) (m : Machine). wrote x m out) d e ∙ sym (wrote-all w out b)
+
+judged-all : (good : Bool) (m : Machine) → allWrapped (judged good m) ≡ judged good (wrappedMachine m)
+unfolding wrappedMachine wrappedReply verdict answered
+judged-all true m = refl
+judged-all false m = refl
+
+refused-all : (n : ℕ) (out : List ℕ) (m : Machine) → allWrapped (refusedWith n m out) ≡ refusedWith n (wrappedMachine m) out
+unfolding wrappedReply refusedWith
+refused-all n out m = refl
 
 -- ## Two machines that are the same once their counts wrap around
 
@@ -50,12 +69,7 @@ wrapped-twice m = let e : m .counts .steps % 2 ^ 64 % 2 ^ 64 ≡ m .counts .step
 
 runs : (stretch : Stretch) (a b : Machine) → wrappedMachine a ≡ wrappedMachine b → wrappedMachine (runThrough stretch a) ≡ wrappedMachine (runThrough stretch b)
 unfolding wrappedMachine runThrough
-runs stretch a b e = λ i. record {
-  kind = e i .kind;
-  phase = e i .phase;
-  state = through stretch (e i .state);
-  counts = record { dataBytes = e i .counts .dataBytes; textBytes = e i .counts .textBytes; steps = steps i };
-}
+runs stretch a b e = λ i. withCounts (withSteps (steps i) (e i .counts)) (withState (through stretch (e i .state)) (e i))
   where
     steps : wrapped (a .counts .steps + stretch .steps) ≡ wrapped (b .counts .steps + stretch .steps)
     steps =
@@ -107,7 +121,7 @@ module _ (a b : Machine) (e : wrappedMachine a ≡ wrappedMachine b) where
   unfolding wrappedMachine
   same-tag = ap (λ (m : Machine). tagOf (m .state)) same-textEnded
 
-  same-work : (c : Call) → wrappedOutcome (work a c) ≡ wrappedOutcome (work b c)
+  same-work : (c : Call) → allWrapped (work a c) ≡ allWrapped (work b c)
   unfolding work wrappedMachine
   same-work (begin key nonce) = wrote-same _ _ [] _ _ refl (same-begun key nonce)
   same-work (dataCall piece) = wrote-same _ _ [] _ _ refl (same-data piece)
@@ -115,23 +129,23 @@ module _ (a b : Machine) (e : wrappedMachine a ≡ wrappedMachine b) where
   same-work (checkText piece) = wrote-same _ _ [] _ _ refl (same-text piece)
   same-work (sealClose out) = wrote-same _ _ out _ _ same-tag same-closed
   same-work (checkClose tag) =
-      judged-wrapped _ (closed a) ∙ ap₂ judged (ap (sameBytes tag) same-tag) same-closed ∙ sym (judged-wrapped _ (closed b))
+      judged-all _ (closed a) ∙ ap₂ judged (ap (sameBytes tag) same-tag) same-closed ∙ sym (judged-all _ (closed b))
 
   same-unlessRefused : (n : ℕ) (c : Call)
-      → wrappedOutcome (unlessRefused n (work a c) (refusedWith n a (outputOf c))) ≡ wrappedOutcome (unlessRefused n (work b c) (refusedWith n b (outputOf c)))
+      → allWrapped (unlessRefused n (work a c) (refusedWith n a (outputOf c))) ≡ allWrapped (unlessRefused n (work b c) (refusedWith n b (outputOf c)))
   unfolding unlessRefused
   same-unlessRefused zero c = same-work c
   same-unlessRefused (suc n) c =
-      refused-wrapped (suc n) (outputOf c) a ∙ ap (λ (m : Machine). refusedWith (suc n) m (outputOf c)) e ∙ sym (refused-wrapped (suc n) (outputOf c) b)
+      refused-all (suc n) (outputOf c) a ∙ ap (λ (m : Machine). refusedWith (suc n) m (outputOf c)) e ∙ sym (refused-all (suc n) (outputOf c) b)
 
   -- a call's outcomes are the same, once the counts wrap around
-  pub same-call : (c : Call) → wrappedOutcome (call a c) ≡ wrappedOutcome (call b c)
+  pub same-call : (c : Call) → allWrapped (call a c) ≡ allWrapped (call b c)
   unfolding call
   same-call c =
       same-unlessRefused (refusal a c) c
-      ∙ ap (λ (n : ℕ). wrappedOutcome (unlessRefused n (work b c) (refusedWith n b (outputOf c)))) (same-refusal c)
+      ∙ ap (λ (n : ℕ). allWrapped (unlessRefused n (work b c) (refusedWith n b (outputOf c)))) (same-refusal c)
 
-pub wrapped-call : (m : Machine) (c : Call) → wrappedOutcome (call (wrappedMachine m) c) ≡ wrappedOutcome (call m c)
+pub wrapped-call : (m : Machine) (c : Call) → allWrapped (call (wrappedMachine m) c) ≡ allWrapped (call m c)
 wrapped-call m c = same-call (wrappedMachine m) m (wrapped-twice m) c
 
 -- ## Counts that do not wrap around
@@ -140,35 +154,35 @@ pub within : (m : Machine) → m .counts .steps < 2 ^ 64 → wrappedMachine m �
 unfolding wrappedMachine wrapped
 within m h = rw (mod-eq-of-lt h)
 
-wrote-within : (written out : List ℕ) (m : Machine) → m .counts .steps < 2 ^ 64 → wrappedOutcome (wrote written m out) ≡ wrote written m out
-wrote-within written out m h = wrote-wrapped written out m ∙ ap (λ (x : Machine). wrote written x out) (within m h)
+wrote-within : (written out : List ℕ) (m : Machine) → m .counts .steps < 2 ^ 64 → allWrapped (wrote written m out) ≡ wrote written m out
+wrote-within written out m h = wrote-all written out m ∙ ap (λ (x : Machine). wrote written x out) (within m h)
 
-work-within : (m : Machine) (c : Call) → work m c .next .counts .steps < 2 ^ 64 → wrappedOutcome (work m c) ≡ work m c
+work-within : (m : Machine) (c : Call) → work m c .next .counts .steps < 2 ^ 64 → allWrapped (work m c) ≡ work m c
 unfolding work wrote
 work-within m (begin key nonce) h = wrote-within _ [] _ h
 work-within m (dataCall piece) h = wrote-within _ [] _ h
 work-within m (sealText piece out) h = wrote-within _ out _ h
 work-within m (checkText piece) h = wrote-within _ [] _ h
 work-within m (sealClose out) h = wrote-within _ out _ h
-work-within m (checkClose tag) h = judged-wrapped _ (closed m) ∙ ap (judged _) (within (closed m) h)
+work-within m (checkClose tag) h = judged-all _ (closed m) ∙ ap (judged _) (within (closed m) h)
 
 unlessRefused-within : (n : ℕ) (m : Machine) (c : Call) → unlessRefused n (work m c) (refusedWith n m (outputOf c)) .next .counts .steps < 2 ^ 64
-    → wrappedOutcome (unlessRefused n (work m c) (refusedWith n m (outputOf c))) ≡ unlessRefused n (work m c) (refusedWith n m (outputOf c))
+    → allWrapped (unlessRefused n (work m c) (refusedWith n m (outputOf c))) ≡ unlessRefused n (work m c) (refusedWith n m (outputOf c))
 unfolding unlessRefused refusedWith
 unlessRefused-within zero m c h = work-within m c h
-unlessRefused-within (suc n) m c h = refused-wrapped (suc n) (outputOf c) m ∙ ap (λ (x : Machine). refusedWith (suc n) x (outputOf c)) (within m h)
+unlessRefused-within (suc n) m c h = refused-all (suc n) (outputOf c) m ∙ ap (λ (x : Machine). refusedWith (suc n) x (outputOf c)) (within m h)
 
 -- an outcome whose count is below 2 ^ 64
 pub call-within : (m : Machine) (c : Call) → call m c .next .counts .steps < 2 ^ 64 → wrappedOutcome (call m c) ≡ call m c
-unfolding call
-call-within m c h = unlessRefused-within (refusal m c) m c h
+unfolding wrappedOutcome
+call-within m c h = either (leftUnchanged (call m c .answer)) (call m c) (unfold call in unlessRefused-within (refusal m c) m c h)
+  where
+    either : (b : Bool) (o : Outcome Machine Work) → allWrapped o ≡ o
+        → record { next = o .next if b else wrappedMachine (o .next); answer = wrappedReply (o .answer); out = o .out } ≡ o
+    either true o e = λ i. record { next = o .next; answer = e i .answer; out = o .out }
+    either false o e = e
 
 -- ## What a session's call comes to
-
--- on a session that stands for a machine whose count wrapped around
-pub called-wrapped : (s : Session) (c : Call) (r : SessionReply) (out : List ℕ) (m : Machine) → machineOf s ≡ wrappedMachine m → Called s c r out
-    → sessionOutcome r out ≡ wrappedOutcome (call m c)
-called-wrapped s c r out m e h = h ∙ ap (λ (x : Machine). wrappedOutcome (call x c)) e ∙ wrapped-call m c
 
 -- on a session that stands for a machine, where the count stays below 2 ^ 64
 pub called-within : (s : Session) (c : Call) (r : SessionReply) (out : List ℕ) (m : Machine) → machineOf s ≡ m → call m c .next .counts .steps < 2 ^ 64 → Called s c r out

@@ -1,14 +1,13 @@
 -- How a session is held against document 01's machine: the one equation that every method's contract is.
 use mathlib.Core.Path.{_≡_}
-use mathlib.Core.Bool.{Bool, not}
 use mathlib.Core.List.{List}
 use Prim.Native.Nat.{ℕ, _%_, _^_}
 use Rattle.acorn_model.specs.declared.Phase.{Phase}
 use Rattle.calls.specs.declared.Answer.the-variants.{Refused, Done}
 use Rattle.acorn_model.specs.Bits.{Bits}
-use Rattle.calls.specs.Calls.{_if_else_, Reply, refused, done, Work, accepted, Outcome, answerReply}
+use Rattle.calls.specs.Calls.{_if_else_, Reply, refused, done, Work, leftUnchanged, Outcome, answerReply}
 use Rattle.acorn_model.specs.Stretches.{through, dataEnd}
-use Rattle.acorn_model.specs.Machine.{Machine, Call, isData, textTaken, call}
+use Rattle.acorn_model.specs.Machine.{Machine, withSteps, withCounts, Call, isData, textTaken, call}
 use Rattle.acorn_kernel.specs.declared.State.{State}
 use Rattle.acorn_kernel.specs.Together.{stateOf}
 use Rattle.session.specs.declared.Session.{Session}
@@ -31,24 +30,19 @@ sessionOutcome r out = record { next = machineOf (r .session); answer = answerRe
 -- ## Counting in 64 bits
 
 -- A session's count of steps wraps around at 2 ^ 64. A session that was fresh comes nowhere near, but a value of the struct may hold any count.
+-- A refused call, but for one with 7, changes nothing, and so not the count.
 unfoldable pub wrapped : ℕ → ℕ
 wrapped n = n % 2 ^ 64
 
 unfoldable pub wrappedMachine : Machine → Machine
-wrappedMachine m =
-    record {
-      kind = m .kind;
-      phase = m .phase;
-      state = m .state;
-      counts = record { dataBytes = m .counts .dataBytes; textBytes = m .counts .textBytes; steps = wrapped (m .counts .steps) };
-    }
+wrappedMachine m = withCounts (withSteps (wrapped (m .counts .steps)) (m .counts)) m
 
 unfoldable pub wrappedReply : Reply Work → Reply Work
 wrappedReply (refused n) = refused n
 wrappedReply (done w) = done (record { bytes = w .bytes; steps = wrapped (w .steps) })
 
 unfoldable pub wrappedOutcome : Outcome Machine Work → Outcome Machine Work
-wrappedOutcome o = record { next = wrappedMachine (o .next); answer = wrappedReply (o .answer); out = o .out }
+wrappedOutcome o = record { next = o .next if leftUnchanged (o .answer) else wrappedMachine (o .next); answer = wrappedReply (o .answer); out = o .out }
 
 -- ## The contract of a call
 
@@ -71,15 +65,6 @@ endedState phase S = through dataEnd S if isData phase else S
 
 abbrev pub dataEndSteps : Phase → ℕ
 dataEndSteps phase = dataEnd .steps if isData phase else 0
-
--- the smallest number that applies, by a call's four tests
-abbrev pub refusalBy : Bool → Bool → Bool → Bool → ℕ
-refusalBy allowed sized over short =
-    1 if not allowed else
-    2 if not sized else
-    5 if over else
-    6 if short else
-    accepted
 
 -- the session z after a piece of text, where `state` is what the piece led to
 abbrev pub TextTaken : Session → List ℕ → State → Session → Type 0

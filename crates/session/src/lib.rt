@@ -10,8 +10,13 @@ use acorn::start;
 use acorn::tag as tag_of;
 use acorn::write_tag;
 use acorn::zeros;
+use acorn_model::CLOSE_STEPS;
+use acorn_model::KEY_LENGTH;
 use acorn_model::Kind;
+use acorn_model::NONCE_LENGTH;
 use acorn_model::Phase;
+use acorn_model::START_STEPS;
+use acorn_model::TAG_LENGTH;
 use calls::Answer;
 use compare::same_bytes;
 use phase_runs::ciphertext_taken;
@@ -96,14 +101,15 @@ impl Session {
         ensures { λ r. ⌜ Called self (machine.begin (now (key .entry)) (now (nonce .entry))) r [] ⌝ }
     {
         let phase = self.phase;
-        let allowed = is_fresh(phase);
-        let sized = (key.len() == 16) & (nonce.len() == 16);
-        let number = refusal::number(allowed, sized, false, false);
-        if number != 0 {
-            return self.refused(number);
+        let sized = (key.len() == KEY_LENGTH) & (nonce.len() == NONCE_LENGTH);
+        if !is_fresh(phase) {
+            return self.refused(1);
+        }
+        if !sized {
+            return self.refused(2);
         }
         let started = start(key, nonce);
-        let steps = wrapping_add_u64(self.steps, 1792);
+        let steps = wrapping_add_u64(self.steps, START_STEPS);
         let begun = Session {
             state: started,
             steps,
@@ -119,11 +125,11 @@ impl Session {
     {
         let phase = self.phase;
         let taken = self.data_bytes;
-        let allowed = is_data(phase);
-        let over = over_limit(taken, piece.len());
-        let number = refusal::number(allowed, true, over, false);
-        if number != 0 {
-            return self.refused(number);
+        if !is_data(phase) {
+            return self.refused(1);
+        }
+        if over_limit(taken, piece.len()) {
+            return self.refused(5);
         }
         let held = self.state;
         let absorbed = absorb_data(held, piece);
@@ -157,8 +163,7 @@ impl Session {
         }
     }
 
-    // A sealing session writes the ciphertext of the piece. The tests stand one after the other, so that the call stays small enough to be
-    // compiled into each of its callers.
+    // A sealing session writes the ciphertext of the piece.
     pub fn seal_text(self, piece: &[u8], out: &mut [u8]) -> Reply
         ensures { λ r. ⌜ Called self (machine.sealText (now (piece .entry)) (now (out .entry))) r (now (out .exit)) ⌝ }
     {
@@ -190,9 +195,9 @@ impl Session {
     {
         let kind = self.kind;
         let phase = self.phase;
-        let taken = self.text_bytes;
+        let text_bytes = self.text_bytes;
         let allowed = is_sealing(kind) & takes_text(phase);
-        let over = over_limit(taken, piece.len());
+        let over = over_limit(text_bytes, piece.len());
         let short = out.len() < piece.len();
         if !allowed {
             return self.refused(1);
@@ -217,10 +222,11 @@ impl Session {
         let phase = self.phase;
         let taken = self.text_bytes;
         let allowed = is_checking(kind) & takes_text(phase);
-        let over = over_limit(taken, piece.len());
-        let number = refusal::number(allowed, true, over, false);
-        if number != 0 {
-            return self.refused(number);
+        if !allowed {
+            return self.refused(1);
+        }
+        if over_limit(taken, piece.len()) {
+            return self.refused(5);
         }
         let held = self.state;
         let checked = ciphertext_taken(phase, held, piece);
@@ -233,7 +239,7 @@ impl Session {
         ensures { λ r. ⌜ machineOf r ≡ wrappedMachine (machine.closed (machineOf self)) ⌝ }
     {
         let phase = self.phase;
-        let steps = wrapping_add_u64(self.steps, data_end_steps(phase) + 1024);
+        let steps = wrapping_add_u64(self.steps, data_end_steps(phase) + CLOSE_STEPS);
         Session {
             state: zeros(),
             steps,
@@ -249,15 +255,16 @@ impl Session {
         let kind = self.kind;
         let phase = self.phase;
         let allowed = is_sealing(kind) & takes_text(phase);
-        let short = out.len() < 16;
-        let number = refusal::number(allowed, true, false, short);
-        if number != 0 {
-            return self.refused(number);
+        if !allowed {
+            return self.refused(1);
+        }
+        if out.len() < TAG_LENGTH {
+            return self.refused(6);
         }
         let held = self.state;
         write_tag(text_ended(phase, held), out);
         let closed = self.closed();
-        closed.done(16)
+        closed.done(TAG_LENGTH)
     }
 
     // A checking session is given a tag, and answers good or 7.
@@ -266,11 +273,11 @@ impl Session {
     {
         let kind = self.kind;
         let phase = self.phase;
-        let allowed = is_checking(kind) & takes_text(phase);
-        let sized = tag.len() == 16;
-        let number = refusal::number(allowed, sized, false, false);
-        if number != 0 {
-            return self.refused(number);
+        if !(is_checking(kind) & takes_text(phase)) {
+            return self.refused(1);
+        }
+        if tag.len() != TAG_LENGTH {
+            return self.refused(2);
         }
         let held = self.state;
         let expected = tag_of(text_ended(phase, held));

@@ -4,6 +4,7 @@ use acorn::State;
 use acorn::check_text;
 use acorn::end_data;
 use acorn::end_text;
+use acorn_model::DATA_END_STEPS;
 use acorn_model::Phase;
 ghost use mathlib.Core.Path.{_≡_};
 ghost use mathlib.Core.Bool.{true};
@@ -41,7 +42,7 @@ pub(crate) fn data_ended(phase: Phase, state: State) -> State
 pub(crate) fn data_end_steps(phase: Phase) -> u64
     ensures { λ r. ⌜ r ≡ dataEndSteps phase ⌝ }
 {
-    if is_data(phase) { 256 } else { 0 }
+    if is_data(phase) { DATA_END_STEPS } else { 0 }
 }
 
 // A checking session's text: ciphertext is given, and the text's bits enter the state.

@@ -1,4 +1,5 @@
-// What sends a call back: its tests, and the smallest number that applies.
+// The tests of what sends a call back.
+use acorn_model::BYTE_LIMIT;
 use acorn_model::Kind;
 use acorn_model::Phase;
 ghost use mathlib.Core.Path.{_≡_};
@@ -6,7 +7,6 @@ ghost use mathlib.Core.Bool.{_||_};
 ghost use Prim.Native.Nat.{_+_};
 ghost use lib.Dec.{ltb};
 ghost use Rattle.acorn_model.specs.Machine.{isSealing, isChecking, isFresh, isData, isText, byteLimit};
-ghost use Rattle.session.specs.Contracts.{refusalBy};
 
 pub(crate) fn is_sealing(kind: Kind) -> bool
     ensures { λ r. ⌜ r ≡ isSealing kind ⌝ }
@@ -75,24 +75,5 @@ pub(crate) fn takes_text(phase: Phase) -> bool
 pub(crate) fn over_limit(taken: u64, piece: usize) -> bool
     ensures { λ r. ⌜ r ≡ ltb byteLimit (taken + piece) ⌝ }
 {
-    taken > 65536 || piece as u64 > 65536 - taken
-}
-
-// The smallest number that applies, by the four tests; 0 where none does.
-pub(crate) fn number(allowed: bool, sized: bool, over: bool, short: bool) -> u8
-    ensures { λ r. ⌜ r ≡ refusalBy allowed sized over short ⌝ }
-{
-    if !allowed {
-        return 1;
-    }
-    if !sized {
-        return 2;
-    }
-    if over {
-        return 5;
-    }
-    if short {
-        return 6;
-    }
-    0
+    taken > BYTE_LIMIT as u64 || piece as u64 > BYTE_LIMIT as u64 - taken
 }

@@ -11,5 +11,7 @@ pub mod RefusalCases
 pub mod SentBack
 pub mod Unpacking
 pub mod Opening
+pub mod Exact
+pub mod Plain
 pub mod Listing
 pub mod Refusals

@@ -1,5 +1,5 @@
 -- The listing's numbers are decimal digits that read back as the number, and document 01's example comes out.
-use mathlib.Core.Path.{_≡_, refl, sym, ap, _∙_}
+use mathlib.Core.Path.{_≡_, refl, sym, ap, ap₂, _∙_}
 use mathlib.Core.Bool.{Bool, true, false, not, _&&_}
 use mathlib.Core.List.{List, [], _∷_, _++_, append-assoc}
 use Prim.Native.Nat.{ℕ, zero, suc, _+_, _-_, _*_, _/_, _%_, _^_, _≤_, _<_}
@@ -13,8 +13,9 @@ use Rattle.tape_model.specs.declared.Ticket.{Ticket}
 use Rattle.tape_model.specs.Ticket.{net}
 use Rattle.acorn_model.specs.Machine.{keyLength}
 use Rattle.tape_model.specs.Tape.{isTicketsLength, totalNet, isTapeLength, openTapeRefusal}
-use Rattle.tape_model.specs.Listing.{decimalBelow, decimal, numbers, headLine, ticketLine, ticketLines, totalLine, refusedLine, listed, listingUnless, listing, printed}
+use Rattle.tape_model.specs.Listing.{decimalBelow, decimal, numbers, headLine, ticketLine, ticketLines, lineOfTotals, totalLine, refusedLine, listed, listingUnless, listing, printed}
 use Rattle.tape_model.specs.Laws.{valueAfter, ListingLaws}
+use Rattle.tape_model.proofs.Tickets.{ticket-laws}
 
 -- what holds of one digit, and of more, holds of a number's digits
 by-digits : (P : List ℕ → Type 0) (k n : ℕ) → (n < 10 → P ((0x30 + n) ∷ [])) → (10 ≤ n → P (decimalBelow k (n / 10) ++ ((0x30 + n % 10) ∷ []))) → P (decimalBelow (suc k) n)
@@ -117,6 +118,12 @@ positions p (t ∷ ts) us =
     ap (_++_ (ticketLine p t)) (positions (p + 1) ts us ∙ ap (λ (n : ℕ). ticketLines (p + 1) ts ++ ticketLines n us) {x = p + 1 + length ts} {y = p + suc (length ts)} (omega arith))
     ∙ sym (append-assoc (ticketLine p t) (ticketLines (p + 1) ts) (ticketLines (p + suc (length ts)) us))
 
+-- ## Totals
+
+totals : (ts us : List Ticket) → totalLine (ts ++ us) ≡ lineOfTotals (length ts + length us) (totalNet ts + totalNet us)
+unfolding totalLine
+totals ts us = ap₂ lineOfTotals (length-append ts us) (ticket-laws .net-append ts us)
+
 -- ## A key cut short
 
 short-key : (input : List ℕ) → length input < keyLength → printed input ≡ refusedLine 2
@@ -139,8 +146,11 @@ listing-laws =
       value = value-of-digits 20;
       zero-digit = decimal-one 0 (omega arith);
       positions = positions;
+      totals-none = refl;
+      totals = totals;
       short-key = short-key;
       refusal = λ key tape n e. ap (λ (x : ℕ). listingUnless x key tape) e;
       example = refl;
+      two-tickets = refl;
       refused-example = refl;
     }

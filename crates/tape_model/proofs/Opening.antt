@@ -7,15 +7,15 @@ use native.Mathlib.Omega.{arith}
 use lib.Dec.{eqb, leb, ltb}
 use lib.ListN.{length, take, drop, length-drop}
 use lib.Seq.{take-at}
-use borrow.Author.Tests.{eqb-true, leb-true, eq-eqb, le-leb, not-false}
-use Rattle.calls.specs.Calls.{_if_else_, done, writtenOver}
+use borrow.Author.Tests.{eqb-true, leb-true, ltb-false, eq-eqb, le-leb, not-false}
+use Rattle.calls.specs.Calls.{_if_else_, done, writtenOver, isRefused}
 use Rattle.acorn_model.specs.Machine.{keyLength}
 use Rattle.acorn_model.specs.Message.{tagMatches}
 use Rattle.calls.proofs.Choices.{both}
 use Rattle.acorn_model.proofs.Messages.{opened-length}
 use Rattle.calls.proofs.Results.{done-told}
 use Rattle.tape_model.specs.Ticket.{ticketLength, headLength, unpackHead}
-use Rattle.tape_model.specs.Tape.{ticketLimit, nonceOf, isTicketsLength, unpackTickets, isRefused, ticketsIn, totalNet, Totals, emptyTapeLength, isTapeLength, headBytes, sealedBytes, ticketCount, plainBytes, openTapeRefusal, openTape}
+use Rattle.tape_model.specs.Tape.{ticketLimit, nonceOf, isTicketsLength, unpackTickets, ticketsIn, totalNet, Totals, emptyTapeLength, isTapeLength, headBytes, sealedBytes, ticketCount, plainBytes, openTapeRefusal, openTape}
 
 -- ## A tape's length
 
@@ -38,26 +38,46 @@ text-length n s = omega (arith, s .whole)
 
 -- ## Where no number applies
 
-none-applied : (a b c d e : Bool) → _≡_ {A = ℕ} (2 if a else 3 if b else 6 if c else 7 if d else 8 if e else 0) 0 → (a ≡ false) × (e ≡ false)
+none-applied : (a b c d e : Bool) → _≡_ {A = ℕ} (2 if a else 3 if b else 6 if c else 7 if d else 8 if e else 0) 0
+    → (a ≡ false) × (b ≡ false) × (c ≡ false) × (d ≡ false) × (e ≡ false)
 none-applied true b c d e h = absurd (omega arith)
 none-applied false true c d e h = absurd (omega arith)
 none-applied false false true d e h = absurd (omega arith)
 none-applied false false false true e h = absurd (omega arith)
 none-applied false false false false true h = absurd (omega arith)
-none-applied false false false false false h = (refl, refl)
+none-applied false false false false false h = (refl, refl, refl, refl, refl)
 
 module _ (key tape out : List ℕ) (accepted : openTapeRefusal key tape out ≡ 0) where
-  told : (not (eqb (length key) keyLength && isTapeLength (length tape)) ≡ false) × (isRefused (unpackTickets (ticketCount tape) (plainBytes key tape)) ≡ false)
+  told : (not (eqb (length key) keyLength && isTapeLength (length tape)) ≡ false)
+      × (isRefused (unpackHead (headBytes tape)) ≡ false)
+      × (ltb (length out) (ticketLength * ticketCount tape) ≡ false)
+      × (not (tagMatches key (nonceOf (headBytes tape)) (headBytes tape) (sealedBytes tape)) ≡ false)
+      × (isRefused (unpackTickets (ticketCount tape) (plainBytes key tape)) ≡ false)
   unfolding openTapeRefusal
   told =
       none-applied (not (eqb (length key) keyLength && isTapeLength (length tape))) (isRefused (unpackHead (headBytes tape))) (ltb (length out) (ticketLength * ticketCount tape))
       (not (tagMatches key (nonceOf (headBytes tape)) (headBytes tape) (sealedBytes tape))) (isRefused (unpackTickets (ticketCount tape) (plainBytes key tape))) accepted
 
+  sizes : (length key ≡ keyLength) × TapeSize (length tape)
+  sizes = sizes-told key (length tape) (isTapeLength (length tape)) refl (told .0)
+
+  pub key-size : length key ≡ keyLength
+  key-size = sizes .0
+
   pub size : TapeSize (length tape)
-  size = sizes-told key (length tape) (isTapeLength (length tape)) refl (told .0) .1
+  size = sizes .1
+
+  pub head-good : isRefused (unpackHead (headBytes tape)) ≡ false
+  head-good = told .1
+
+  pub room : ticketLength * ticketCount tape ≤ length out
+  room = ltb-false _ _ (told .2)
+
+  pub tag-matches : tagMatches key (nonceOf (headBytes tape)) (headBytes tape) (sealedBytes tape) ≡ true
+  tag-matches = not-false _ (told .3)
 
   pub tickets-good : isRefused (unpackTickets (ticketCount tape) (plainBytes key tape)) ≡ false
-  tickets-good = told .1
+  tickets-good = told .4
 
   pub plain-length : length (plainBytes key tape) ≡ ticketLength * ticketCount tape
   unfolding plainBytes
@@ -88,6 +108,9 @@ module _ (key tape out : List ℕ) (k : Totals) (after : List ℕ) (e : openTape
   pub net-is : k .net ≡ totalNet (ticketsIn (unpackTickets (ticketCount tape) (plainBytes key tape)))
   net-is = sym (ap (λ (t : Totals). t .net) (result .1))
 
+  pub wrote : writtenOver (plainBytes key tape) out ≡ after
+  wrote = result .2
+
   pub few-tickets : k .tickets ≤ ticketLimit
   few-tickets = omega (arith, count-is, size key tape out was-accepted .few)
 
@@ -95,5 +118,5 @@ module _ (key tape out : List ℕ) (k : Totals) (after : List ℕ) (e : openTape
   pub front : take (ticketLength * k .tickets) after ≡ plainBytes key tape
   unfolding writtenOver
   front =
-      ap (take (ticketLength * k .tickets)) (sym (result .2))
+      ap (take (ticketLength * k .tickets)) (sym wrote)
       ∙ take-at (plainBytes key tape) (drop (length (plainBytes key tape)) out) (ticketLength * k .tickets) (omega (arith, plain-length key tape out was-accepted, count-is))

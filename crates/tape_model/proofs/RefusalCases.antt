@@ -8,7 +8,7 @@ use Rattle.calls.specs.Calls.{unlessRefused, resultOf}
 use Rattle.calls.proofs.Choices.{both}
 use Rattle.acorn_model.proofs.StepCases.{same}
 use Rattle.tape_model.specs.Ticket.{ordered, valuesRule, ticketRule, packTicket, unpackTicket, packTicketInto, headRule, packHead, unpackHead, packHeadInto}
-use Rattle.tape_model.specs.Tape.{isTicketsLength, unpackTickets, totalsOf, plainTotals, isTapeLength, openTapeRefusal}
+use Rattle.tape_model.specs.Tape.{isTicketsLength, unpackTickets, plainTickets, totalsOf, plainTotals, isTapeLength, openTapeRefusal}
 use Rattle.tape_model.specs.Writer.{phaseAllows, keyRight, headRight, ticketRight, tapeFull, outputShort, refusal}
 use Rattle.tape_model.specs.Reader.{handedOut, readNext}
 use Rattle.tape_model.specs.RefusalCases.{writerWith, RefusalCase, writes, opens, sizes, Gets, AllGet, tapeRefusalCases, ReaderCases, PackingCases}
@@ -32,11 +32,11 @@ shown-all [] h = tt
 shown-all (c ∷ cs) h = let p = both (gets c) (allGet cs) h in (shown c (p .0), shown-all cs (p .1))
 
 pub refusal-cases : AllGet tapeRefusalCases
-unfolding refusal phaseAllows keyRight headRight ticketRight tapeFull outputShort headRule ticketRule valuesRule ordered openTapeRefusal isTapeLength isTicketsLength unpackHead packHead
+unfolding refusal phaseAllows keyRight headRight ticketRight tapeFull outputShort headRule ticketRule valuesRule ordered openTapeRefusal isTapeLength isTicketsLength unpackHead unlessRefused packHead
 refusal-cases = shown-all tapeRefusalCases refl
 
 pub reader-cases : ReaderCases
-unfolding readNext handedOut plainTotals totalsOf unpackTickets isTicketsLength unpackTicket packTicket valuesRule ordered
+unfolding readNext handedOut plainTotals totalsOf plainTickets unpackTickets isTicketsLength unpackTicket unlessRefused packTicket valuesRule ordered
 reader-cases = record { too-short = refl; not-whole = refl; bad = refl; bad-first = refl; bad-second = refl; no-totals = (refl, refl) }
 
 pub packing-cases : PackingCases

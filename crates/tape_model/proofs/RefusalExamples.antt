@@ -8,12 +8,10 @@ use lib.Dec.{leb, ltb, eqb}
 use lib.ListN.{length, length-append}
 use lib.Seq.{take-at, drop-at}
 use borrow.Author.Tests.{leb-true, le-leb, le-ltb, eq-eqb, ne-eqb}
-use Rattle.calls.specs.Calls.{AreBytes}
-use Rattle.calls.specs.Calls.{_if_else_, refused, accepted, unlessRefused, sameBytes, refusedWith, resultOf}
+use Rattle.calls.specs.Calls.{AreBytes, _if_else_, refused, accepted, unlessRefused, sameBytes, refusedWith, resultOf, isRefused}
 use Rattle.acorn_model.specs.Paper.{ciphertext, tag, newTag}
 use Rattle.calls.specs.Lists.{handedOn}
-use Rattle.acorn_model.specs.Machine.{tagLength, fresh, phaseAllows, sizesRight, overLimit, outputShort, refusal, keyLength}
-use Rattle.acorn_model.specs.Machine.{runThrough, enter, cleared, countData, begun, dataTaken, textTaken, answered, wrote, work, call}
+use Rattle.acorn_model.specs.Machine.{tagLength, fresh, phaseAllows, sizesRight, overLimit, outputShort, refusal, keyLength, runThrough, enter, cleared, countData, begun, dataTaken, textTaken, answered, wrote, work, call}
 use Rattle.acorn_model.specs.Message.{cipherPart, tagPart, sealed, sealRefusal, sealMessage, tagMatches, opened, openMessage}
 use Rattle.acorn_model.specs.Laws.{WithinLimits}
 use Rattle.acorn_model.proofs.Outputs.{tag-length, sealed-length}
@@ -22,7 +20,7 @@ use Rattle.acorn_model.proofs.Proved.{opening-exact}
 use Rattle.tape_model.specs.declared.Ticket.{Ticket}
 use Rattle.tape_model.specs.declared.Head.{Head}
 use Rattle.tape_model.specs.Ticket.{ticketLength, ordered, valuesRule, ticketRule, unpackTicket, headLength, headRule, packHead, unpackHead}
-use Rattle.tape_model.specs.Tape.{ticketLimit, nonceOf, packTickets, tapeOf, isTicketsLength, unpackTickets, isRefused, emptyTapeLength, isTapeLength, headBytes, sealedBytes, ticketCount, plainBytes, openTapeRefusal, openTape}
+use Rattle.tape_model.specs.Tape.{ticketLimit, nonceOf, packTickets, tapeOf, isTicketsLength, unpackTickets, emptyTapeLength, isTapeLength, headBytes, sealedBytes, ticketCount, plainBytes, openTapeRefusal, openTape}
 use Rattle.tape_model.specs.Writer as plain
 use Rattle.tape_model.specs.Reader.{readerOver, readNext, handedOut}
 use Rattle.tape_model.specs.RefusalExamples.{AllGive, rows, bit7Turned, lastBitTurned, RefusalExamples}

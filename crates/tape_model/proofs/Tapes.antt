@@ -8,8 +8,7 @@ use lib.Dec.{ltb, eqb}
 use lib.ListN.{length, take, drop, replicate, length-append, length-replicate}
 use lib.Seq.{take-at, drop-at, drop-drop}
 use borrow.Author.Tests.{le-leb, lt-leb, le-ltb, eq-eqb}
-use Rattle.calls.specs.Calls.{AreBytes}
-use Rattle.calls.specs.Calls.{_if_else_, refused, Reply, done, accepted, unlessRefused, writtenOver, resultOf}
+use Rattle.calls.specs.Calls.{AreBytes, _if_else_, refused, Reply, done, accepted, unlessRefused, writtenOver, resultOf, isRefused}
 use Rattle.acorn_model.specs.Machine.{keyLength, nonceLength}
 use Rattle.acorn_model.specs.Message.{sealed, tagMatches, opened}
 use Rattle.calls.proofs.AreBytes.{append-are-bytes}
@@ -18,14 +17,15 @@ use Rattle.acorn_model.proofs.Proved.{opening-exact}
 use Rattle.tape_model.specs.declared.Ticket.{Ticket}
 use Rattle.tape_model.specs.declared.Head.{Head}
 use Rattle.tape_model.specs.Format.{widths}
-use Rattle.tape_model.specs.Ticket.{form1, ticketLength, ordered, valuesRule, ticketRule, packTicket, unpackTicket, headLength, headRule, packHead, unpackHead}
-use Rattle.tape_model.specs.Tape.{ticketLimit, nonceOf, packTickets, tapeOf, isTicketsLength, ticketThen, unpackTickets, isRefused, ticketsIn, totalNet, totalsOf, plainTotals, emptyTapeLength, isTapeLength, headBytes, sealedBytes, ticketCount, plainBytes, openTapeRefusal, openTape}
+use Rattle.tape_model.specs.Ticket.{formatOf, ticketLength, ordered, valuesRule, ticketRule, packTicket, unpackTicket, headLength, headRule, packHead, unpackHead}
+use Rattle.tape_model.specs.Tape.{ticketLimit, nonceOf, packTickets, tapeOf, isTicketsLength, ticketThen, unpackTickets, plainTickets, ticketsIn, totalNet, totalsOf, plainTotals, emptyTapeLength, isTapeLength, headBytes, sealedBytes, ticketCount, plainBytes, openTapeRefusal, openTape}
 use Rattle.tape_model.specs.Reader.{ticket, atEnd, Reader, readerOver, readNext, stays, handedOut}
-use Rattle.tape_model.specs.Listing.{headLine, ticketLines, totalLine, listed, listingUnless, listing, printed}
+use Rattle.tape_model.specs.Listing.{headLine, ticketLines, lineOfTotals, totalLine, listed, listingUnless, listing, printed}
 use Rattle.tape_model.specs.Laws.{Valid, readings, readerAfter, asReadings, TapeLaws, TapesComeBack, tapeWithText, BadTickets}
 use Rattle.tape_model.specs.RefusalCases.{goodHead, lastByteC1}
 use Rattle.tape_model.proofs.Ranges.{pack-bytes}
 use Rattle.tape_model.proofs.Tickets.{ticket-inverse, head-inverse, ticket-length, ticket-bytes, head-length}
+use Rattle.tape_model.proofs.Unpacking.{sized-hold, refused-size}
 
 -- ## Plain bytes
 
@@ -70,6 +70,12 @@ tickets-unpack (t ∷ ts) v =
 pub length-allowed : (n : ℕ) → n ≤ ticketLimit → isTicketsLength (13 * n) ≡ true
 unfolding isTicketsLength
 length-allowed n h = ap₂ _&&_ (eq-eqb (13 * n % 13) 0 (omega arith)) (le-leb (13 * n / 13) 5000 (omega arith))
+
+-- the plain bytes of at most 5,000 valid tickets hold them
+pub tickets-held : (ts : List Ticket) → Valid ts → length ts ≤ ticketLimit → plainTickets (packTickets ts) ≡ done ts
+tickets-held ts v n =
+    sized-hold (packTickets ts) (ap isTicketsLength (tickets-length ts) ∙ length-allowed (length ts) n)
+    ∙ ap (λ (m : ℕ). unpackTickets m (packTickets ts)) {x = length (packTickets ts) / ticketLength} {y = length ts} (omega (arith, tickets-length ts)) ∙ tickets-unpack ts v
 
 -- ## Reading
 
@@ -177,10 +183,10 @@ module _ (key : List ℕ) (head : Head) (ts : List Ticket) (k : length key ≡ k
   unfolding tapeOf
   plain = text-plain key head (packTickets ts) (tickets-bytes ts)
 
-  unpacks : unpackTickets (ticketCount tape) (plainBytes key tape) ≡ done ts
+  pub unpacks : unpackTickets (ticketCount tape) (plainBytes key tape) ≡ done ts
   unpacks = ap₂ unpackTickets count plain ∙ tickets-unpack ts v
 
-  opens-head : unpackHead (headBytes tape) ≡ done head
+  pub opens-head : unpackHead (headBytes tape) ≡ done head
   unfolding tapeOf
   opens-head = text-head key head (packTickets ts) h
 
@@ -217,16 +223,14 @@ module _ (key : List ℕ) (head : Head) (ts : List Ticket) (k : length key ≡ k
 
   totals : plainTotals (packTickets ts) ≡ done (record { tickets = length ts; net = totalNet ts })
   unfolding plainTotals totalsOf
-  totals =
-      let sized : isTicketsLength (length (packTickets ts)) ≡ true = ap isTicketsLength (tickets-length ts) ∙ length-allowed (length ts) n in
-      rw sized (ap totalsOf (ap (λ (m : ℕ). unpackTickets m (packTickets ts)) {x = length (packTickets ts) / ticketLength} {y = length ts} (omega (arith, tickets-length ts)) ∙ tickets-unpack ts v))
+  totals = ap totalsOf (tickets-held ts v n)
 
-  lists : printed (key ++ tape) ≡ headLine head ++ ticketLines 1 ts ++ totalLine ts
-  unfolding printed listing listingUnless listed
+  lists : printed (key ++ tape) ≡ headLine head ++ ticketLines 1 ts ++ lineOfTotals (length ts) (totalNet ts)
+  unfolding printed listing listingUnless listed totalLine
   lists =
       ap₂ listing (take-at key tape keyLength k) (drop-at key tape keyLength k)
       ∙ ap (λ (x : ℕ). listingUnless x key tape) (no-refusal (replicate (length tape) 0) (omega (arith, length-replicate {A = ℕ} (length tape) 0, size)))
-      ∙ ap₂ (λ (x : Reply Head) (y : Reply (List Ticket)). listed x (ticketsIn y)) opens-head unpacks
+      ∙ ap₂ (λ (x : Reply Head) (y : Reply (List Ticket)). listed x (ticketsIn y)) opens-head (ap plainTickets plain ∙ tickets-held ts v n)
 
   laws : TapeLaws key head ts
   unfolding readerOver
@@ -241,22 +245,23 @@ eight-applies : (a b c d e : Bool) → a ≡ false → b ≡ false → c ≡ fal
 eight-applies a b c d e p q r s t = rw (p, q, r, s, t)
 
 eight : (key : List ℕ) (head : Head) (text out : List ℕ) → length key ≡ keyLength → headRule head ≡ true → AreBytes text
-    → isTicketsLength (length text) ≡ true → length text ≤ length out → isRefused (unpackTickets (length text / ticketLength) text) ≡ true
+    → length text ≤ length out → plainTickets text ≡ refused 8
     → openTape key (tapeWithText key head text) out ≡ record { answer = refused 8; out = out }
 unfolding openTape resultOf unlessRefused openTapeRefusal
-eight key head text out k h bytes sized room bad =
+eight key head text out k h bytes room bad =
     let tape : List ℕ = tapeWithText key head text in
+    let sized = refused-size text 8 bad (λ e. omega arith) in
     let count : ticketCount tape ≡ length text / ticketLength = omega (arith, text-size key head text) in
     rw (eight-applies (not (eqb (length key) keyLength && isTapeLength (length tape))) (isRefused (unpackHead (headBytes tape))) (ltb (length out) (ticketLength * ticketCount tape))
     (not (tagMatches key (nonceOf (headBytes tape)) (headBytes tape) (sealedBytes tape))) (isRefused (unpackTickets (ticketCount tape) (plainBytes key tape)))
     (ap not (text-lengths key head text k sized)) (ap isRefused (text-head key head text h)) (le-ltb (length out) (ticketLength * ticketCount tape) (omega (arith, count)))
-    (ap not (text-matches key head text bytes)) (ap isRefused (ap₂ unpackTickets count (text-plain key head text bytes)) ∙ bad))
+    (ap not (text-matches key head text bytes)) (ap isRefused (ap₂ unpackTickets count (text-plain key head text bytes) ∙ sym (sized-hold text sized) ∙ bad)))
 
 last-byte-C1 : (key out : List ℕ) → length key ≡ keyLength → 13 ≤ length out → openTape key (tapeWithText key goodHead lastByteC1) out ≡ record { answer = refused 8; out = out }
-unfolding headRule isTicketsLength unpackTickets unpackTicket valuesRule ordered
+unfolding headRule plainTickets isTicketsLength unpackTickets unpackTicket unlessRefused valuesRule ordered
 last-byte-C1 key out k room =
-    let bytes : AreBytes lastByteC1 = pack-bytes (widths form1) ticketLength (1 ∷ 5 ∷ 2 ∷ 3 ∷ 4 ∷ 3600 ∷ 4200 ∷ 250000 ∷ 110000 ∷ 1 ∷ []) in
-    eight key goodHead lastByteC1 out k refl bytes refl room refl
+    let bytes : AreBytes lastByteC1 = pack-bytes (widths (formatOf 1)) ticketLength (1 ∷ 5 ∷ 2 ∷ 3 ∷ 4 ∷ 3600 ∷ 4200 ∷ 250000 ∷ 110000 ∷ 1 ∷ []) in
+    eight key goodHead lastByteC1 out k refl bytes room refl
 
 pub bad-tickets : BadTickets
 bad-tickets = record { eight = eight; last-byte-C1 = last-byte-C1 }

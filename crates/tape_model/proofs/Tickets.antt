@@ -1,23 +1,24 @@
 -- Tickets and heads: packing and unpacking undo each other, what is packed is so many bytes, and what the rules say as facts on numbers.
-use Prim.Native.Nat.{ℕ, _+_, _-_, _≤_, _<_}
-use mathlib.Core.Path.{_≡_, refl}
+use Prim.Native.Nat.{ℕ, suc, _+_, _-_, _*_, _/_, _%_, _^_, _≤_, _<_}
+use mathlib.Core.Path.{_≡_, refl, sym, ap, subst, _∙_}
 use mathlib.Core.Bool.{true}
 use mathlib.Core.List.{List, [], _∷_, _++_}
 use native.Mathlib.Omega.{arith}
-use lib.Dec.{leb, ltb}
+use lib.Dec.{leb, ltb, eqb}
 use lib.ListN.{length, getD}
-use borrow.Author.Tests.{leb-true, ltb-true}
-use Rattle.calls.specs.Calls.{AreBytes}
+use borrow.Author.Tests.{eqb-true, leb-true, ltb-true}
+use Rattle.calls.specs.Calls.{AreBytes, done}
 use Rattle.calls.proofs.Choices.{both}
 use Rattle.tape_model.specs.declared.Ticket.{Ticket}
 use Rattle.tape_model.specs.declared.Head.{Head}
-use Rattle.tape_model.specs.Format.{widths, inRanges, cut}
-use Rattle.tape_model.specs.Ticket.{form1, ticketLength, ticketValues, ticketOf, ordered, valuesRule, ticketRule, net, packTicket, unpackTicket, headFormat, headLength, headValues, headOf, headRule, packHead, unpackHead}
+use Rattle.tape_model.specs.Format.{widths, inRanges, totalWidth, join, cut, Fit, byteWidths, unpack, Field}
+use Rattle.tape_model.specs.Ticket.{formatOf, ticketLength, ticketValues, ticketOf, ordered, valuesRule, ticketRule, writeRule, net, packTicket, formIn, ticketValuesIn, unpackTicket, headFormat, headLength, headValues, headOf, headRule, packHead, headValuesIn, unpackHead, form1}
 use Rattle.tape_model.specs.Tape.{totalNet}
-use Rattle.tape_model.specs.Laws.{Inverse, TicketLaws}
-use Rattle.tape_model.proofs.Ranges.{InRanges, in-ranges, ranges-fit, pack-bytes}
+use Rattle.tape_model.specs.Laws.{Inverse, Valid, Writable, TicketLaws}
+use Rattle.tape_model.proofs.Widths.{join-lt, recut}
+use Rattle.tape_model.proofs.Ranges.{InRanges, in-ranges, Roomy, ranges-fit, bytes-fit, pack-bytes}
 use Rattle.tape_model.proofs.BitByBit.{bit-by-bit}
-use Rattle.tape_model.proofs.Inverses.{Laid, inverse, injective}
+use Rattle.tape_model.proofs.Inverses.{unpack-passed, Laid, inverse, injective}
 
 -- ## The rules
 
@@ -27,49 +28,108 @@ in-order t h =
     let p = both (leb (t .loaded) (t .tipped)) (ltb (t .tare) (t .gross)) h in
     (leb-true _ _ (p .0), ltb-true _ _ (p .1))
 
-pub ticket-rule : (t : Ticket) → ticketRule t ≡ true → InRanges form1 (ticketValues t) × (t .loaded ≤ t .tipped) × (t .tare < t .gross)
+pub ticket-rule : (t : Ticket) → ticketRule t ≡ true → InRanges (formatOf (t .form)) (ticketValues t) × (t .loaded ≤ t .tipped) × (t .tare < t .gross)
 unfolding ticketRule valuesRule
 ticket-rule t h =
-    let p = both (inRanges form1 (ticketValues t)) (ordered t) h in
+    let p = both (inRanges (formatOf (t .form)) (ticketValues t)) (ordered t) h in
     let o = in-order t (p .1) in
-    (in-ranges form1 (ticketValues t) (p .0), o .0, o .1)
+    (in-ranges (formatOf (t .form)) (ticketValues t) (p .0), o .0, o .1)
 
 pub head-rule : (h : Head) → headRule h ≡ true → InRanges headFormat (headValues h)
 unfolding headRule
 head-rule h e = in-ranges headFormat (headValues h) e
 
+-- what may be written is valid
+pub writable-valid : (t : Ticket) → writeRule t ≡ true → ticketRule t ≡ true
+writable-valid t h = h
+
+pub all-writable-valid : (ts : List Ticket) → Writable ts → Valid ts
+all-writable-valid [] w = tt
+all-writable-valid (t ∷ ts) w = (writable-valid t (w .0), all-writable-valid ts (w .1))
+
+valid-writable : (t : Ticket) → ticketRule t ≡ true → writeRule t ≡ true
+valid-writable t h = h
+
+all-valid-writable : (ts : List Ticket) → Valid ts → Writable ts
+all-valid-writable [] h = tt
+all-valid-writable (t ∷ ts) h = (valid-writable t (h .0), all-valid-writable ts (h .1))
+
+head-fit : (h : Head) → headRule h ≡ true → Fit (widths headFormat) (headValues h)
+head-fit h e = ranges-fit headFormat (headValues h) (omega arith) (head-rule h e)
+
 -- ## There and back
 
--- in range, the spare bits are zeros, so the ticket holds all that was cut
-spare-zero : (n : ℕ) → InRanges form1 (cut (widths form1) n) → ticketValues (ticketOf (cut (widths form1) n)) ≡ cut (widths form1) n
-spare-zero n r =
-    let z : getD (cut (widths form1) n) 9 0 ≡ 0 = omega arith in
-    rw z
+-- What a ticket's table of fields must have, whichever its form: each field has the bits for its highest value; the fields fill the bytes; the
+-- form is the first four bits; and in range nothing is cut but what a ticket holds.
+record Table (fields : List Field) : Type 0 where
+  roomy : Roomy fields
+  whole : totalWidth (byteWidths ticketLength) ≡ totalWidth (widths fields)
+  first : (n : ℕ) → getD (cut (widths fields) n) 0 0 ≡ n / 2 ^ 100 % 2 ^ 4
+  held : (n : ℕ) → InRanges fields (cut (widths fields) n) → ticketValues (ticketOf (cut (widths fields) n)) ≡ cut (widths fields) n
 
-ranges-of : (vs : List ℕ) → valuesRule vs ≡ true → inRanges form1 vs ≡ true
+table1 : Table form1
+table1 = record { roomy = omega arith; whole = refl; first = λ n. refl; held = spare-zero }
+  where
+    spare-zero : (n : ℕ) → InRanges form1 (cut (widths form1) n) → ticketValues (ticketOf (cut (widths form1) n)) ≡ cut (widths form1) n
+    spare-zero n r = let z : getD (cut (widths form1) n) 9 0 ≡ 0 = omega arith in rw z
+
+table : (form : ℕ) → Table (formatOf form)
+table form = table1
+
+pub ranges-of : (vs : List ℕ) → valuesRule vs ≡ true → InRanges (formatOf (getD vs 0 0)) vs
 unfolding valuesRule
-ranges-of vs h = both (inRanges form1 vs) (ordered (ticketOf vs)) h .0
+ranges-of vs h = in-ranges (formatOf (getD vs 0 0)) vs (both (inRanges (formatOf (getD vs 0 0)) vs) (ordered (ticketOf vs)) h .0)
 
-ticket-laid : Laid form1 ticketLength 8 valuesRule ticketValues ticketOf
+-- the first four bits are the form, whichever form the rest is read by
+form-first : (form : ℕ) (s : List ℕ) → AreBytes s → length s ≡ ticketLength → getD (unpack (widths (formatOf form)) s) 0 0 ≡ formIn s
+form-first form [] b n = absurd (omega arith)
+form-first form (x ∷ s) b n =
+    let m : length s ≡ 12 = omega arith in
+    let small = join-lt (byteWidths 12) s (subst (λ (k : ℕ). Fit (byteWidths k) s) m (bytes-fit s (λ p. b (suc p)))) in
+    let byte = b 0 in
+    let top : (x * 2 ^ totalWidth (byteWidths 12) + join (byteWidths 12) s) / 2 ^ 100 % 2 ^ 4 ≡ x / 16 = omega arith in
+    table form .first _ ∙ ap (λ (k : ℕ). (x * 2 ^ totalWidth (byteWidths k) + join (byteWidths k) s) / 2 ^ 100 % 2 ^ 4) m ∙ top
+
+abbrev formTold : List ℕ → ℕ
+formTold vs = getD vs 0 0
+
+ticket-laid : Laid formatOf formTold formIn ticketLength 7 valuesRule ticketValues ticketOf
+unfolding valuesRule
 ticket-laid =
     record {
-      ranges = ranges-of;
-      roomy = omega arith;
-      whole = refl;
+      ranges = λ vs h. both (inRanges (formatOf (getD vs 0 0)) vs) (ordered (ticketOf vs)) h .0;
+      roomy = λ form. table form .roomy;
+      whole = λ form. table form .whole;
       back = λ t. refl;
-      forth = λ n h. spare-zero n (in-ranges form1 (cut (widths form1) n) (ranges-of (cut (widths form1) n) h));
+      forth = λ form n e h. table form .held n (subst (λ (k : ℕ). InRanges (formatOf k) (cut (widths (formatOf form)) n)) e (ranges-of (cut (widths (formatOf form)) n) h));
+      first = form-first;
     }
 
 pub ticket-inverse : Inverse ticketRule packTicket unpackTicket
 unfolding ticketRule packTicket unpackTicket
-ticket-inverse = inverse form1 ticketLength 8 valuesRule ticketValues ticketOf ticket-laid
+ticket-inverse = inverse formatOf formTold formIn ticketLength 7 valuesRule ticketValues ticketOf ticket-laid
 
-head-laid : Laid headFormat headLength 3 (inRanges headFormat) headValues headOf
-head-laid = record { ranges = λ vs h. h; roomy = omega arith; whole = refl; back = λ h. refl; forth = λ n h. refl }
+-- heads have one form
+head-laid : Laid (λ form. headFormat) (λ vs. 0) (λ s. 0) headLength 2 (inRanges headFormat) headValues headOf
+head-laid =
+    record { ranges = λ vs h. h; roomy = λ form. omega arith; whole = λ form. refl; back = λ h. refl; forth = λ form n e h. refl; first = λ form s b n. refl }
 
 pub head-inverse : Inverse headRule packHead unpackHead
 unfolding headRule packHead unpackHead
-head-inverse = inverse headFormat headLength 3 (inRanges headFormat) headValues headOf head-laid
+head-inverse = inverse (λ form. headFormat) (λ vs. 0) (λ s. 0) headLength 2 (inRanges headFormat) headValues headOf head-laid
+
+-- what unpacks has the size of a ticket, and of a head, and keeps the rule
+pub ticket-told : (s : List ℕ) (t : Ticket) → unpackTicket s ≡ done t → (length s ≡ ticketLength) × (valuesRule (ticketValuesIn s) ≡ true) × (ticketOf (ticketValuesIn s) ≡ t)
+unfolding unpackTicket
+ticket-told s t e =
+    let p = unpack-passed 7 (eqb (length s) ticketLength) (valuesRule (ticketValuesIn s)) (ticketOf (ticketValuesIn s)) t e in
+    (eqb-true (length s) ticketLength (p .0), p .1, p .2)
+
+pub head-told : (s : List ℕ) (h : Head) → unpackHead s ≡ done h → (length s ≡ headLength) × InRanges headFormat (headValuesIn s) × (headOf (headValuesIn s) ≡ h)
+unfolding unpackHead
+head-told s h e =
+    let p = unpack-passed 2 (eqb (length s) headLength) (inRanges headFormat (headValuesIn s)) (headOf (headValuesIn s)) h e in
+    (eqb-true (length s) headLength (p .0), in-ranges headFormat (headValuesIn s) (p .1), p .2)
 
 -- ## Sizes
 
@@ -79,7 +139,7 @@ ticket-length t = refl
 
 pub ticket-bytes : (t : Ticket) → AreBytes (packTicket t)
 unfolding packTicket
-ticket-bytes t = pack-bytes (widths form1) ticketLength (ticketValues t)
+ticket-bytes t = pack-bytes (widths (formatOf (t .form))) ticketLength (ticketValues t)
 
 pub head-length : (h : Head) → length (packHead h) ≡ headLength
 unfolding packHead
@@ -102,13 +162,21 @@ ticket-laws =
     record {
       tickets = ticket-inverse;
       heads = head-inverse;
-      ticket-bits = λ t h. bit-by-bit (widths form1) ticketLength (ticketValues t) refl (ranges-fit form1 (ticketValues t) (ticket-laid .roomy) (ticket-rule t h .0));
-      ticket-width = refl;
-      head-bits = λ d h. bit-by-bit (widths headFormat) headLength (headValues d) refl (ranges-fit headFormat (headValues d) (head-laid .roomy) (head-rule d h));
+      ticket-bits = λ t h. bit-by-bit (widths (formatOf (t .form))) ticketLength (ticketValues t) (table (t .form) .whole)
+          (ranges-fit (formatOf (t .form)) (ticketValues t) (table (t .form) .roomy) (ticket-rule t h .0));
+      ticket-width = λ form. sym (table form .whole);
+      form-first = form-first;
+      head-bits = λ h fit. bit-by-bit (widths headFormat) headLength (headValues h) refl fit;
       head-width = refl;
+      head-fit = head-fit;
+      head-values = λ h fit. recut (widths headFormat) (byteWidths headLength) (headValues h) refl fit;
       nonce = λ h. refl;
       net-one = net-one;
       net-append = net-append;
       ticket-injective = injective ticket-inverse;
       head-injective = injective head-inverse;
+      writable-valid = writable-valid;
+      all-writable-valid = all-writable-valid;
+      valid-writable = valid-writable;
+      all-valid-writable = all-valid-writable;
     }

@@ -1,15 +1,18 @@
 -- The tickets in plain bytes, one by one.
 use mathlib.Core.Path.{_≡_, refl, sym, ap, subst, _∙_}
-use mathlib.Core.Bool.{false}
+use mathlib.Core.Bool.{Bool, true, false, not}
 use mathlib.Core.List.{List, _∷_}
-use Prim.Native.Nat.{ℕ, zero, suc, _+_, _*_, _<_}
+use Prim.Native.Nat.{ℕ, zero, suc, _+_, _*_, _/_, _%_, _≤_, _<_}
 use native.Mathlib.Omega.{arith}
-use lib.ListN.{length, getD, take, drop}
-use lib.Seq.{drop-drop}
-use Rattle.calls.specs.Calls.{Reply, refused, done}
+use lib.Dec.{eqb, leb}
+use lib.ListN.{length, getD, take, drop, length-drop}
+use lib.Seq.{drop-drop, length-take-le}
+use borrow.Author.Tests.{eq-eqb, eqb-true, leb-true}
+use Rattle.calls.specs.Calls.{_if_else_, Reply, refused, done, accepted, unlessRefused, replyOf, isRefused}
+use Rattle.calls.proofs.Choices.{both}
 use Rattle.tape_model.specs.declared.Ticket.{Ticket}
-use Rattle.tape_model.specs.Ticket.{unpackTicket}
-use Rattle.tape_model.specs.Tape.{ticketThen, unpackTickets, isRefused, ticketsIn}
+use Rattle.tape_model.specs.Ticket.{ticketLength, ticketOf, valuesRule, ticketValuesIn, unpackTicket}
+use Rattle.tape_model.specs.Tape.{ticketLimit, isTicketsLength, ticketThen, unpackTickets, plainTickets, ticketsIn}
 
 -- where tickets unpack, the first does and the others do
 pub taken-apart : (P : List Ticket → Type 0) (r : Reply Ticket) (others : Reply (List Ticket)) (ts : List Ticket) → ticketThen r others ≡ done ts
@@ -34,6 +37,77 @@ unpacked-at (suc n) zero s ts t₀ h e =
 unpacked-at (suc n) (suc i) s ts t₀ h e =
     taken-apart (λ l. unpackTicket (take 13 (drop (13 * suc i) s)) ≡ done (getD l (suc i) t₀)) (unpackTicket (take 13 s)) (unpackTickets n (drop 13 s)) ts e
     (λ t us f g. ap (λ (l : List ℕ). unpackTicket (take 13 l)) (ap (λ (k : ℕ). drop k s) {x = 13 * suc i} {y = 13 + 13 * i} (omega arith) ∙ sym (drop-drop (13 * i) 13 s)) ∙ unpacked-at n i (drop 13 s) us t₀ (omega arith) g)
+
+-- 13 bytes are refused for their values alone
+pub refused-by-8 : (s : List ℕ) (n : ℕ) → length s ≡ 13 → refused n ≡ unpackTicket s → n ≡ 8
+unfolding unpackTicket unlessRefused
+refused-by-8 s n e r = by (ticketOf (ticketValuesIn s)) (valuesRule (ticketValuesIn s)) (rw (eq-eqb (length s) 13 e) at r)
+  where
+    by : (t : Ticket) (b : Bool) → refused n ≡ replyOf (8 if not b else accepted) t → n ≡ 8
+    by t true h = let z : _≡_ {A = ℕ} 0 1 = cc in absurd (omega arith)
+    by t false h = cc
+
+-- and so are the bytes of n tickets
+tickets-by-8 : (n : ℕ) (s : List ℕ) (k : ℕ) → 13 * n ≤ length s → unpackTickets n s ≡ refused k → k ≡ 8
+unfolding unpackTickets
+tickets-by-8 zero s k long e = let z : _≡_ {A = ℕ} 0 1 = cc in absurd (omega arith)
+tickets-by-8 (suc n) s k long e = by (unpackTicket (take 13 s)) (unpackTickets n (drop 13 s)) refl (λ m. tickets-by-8 n (drop 13 s) m (omega (arith, length-drop 13 s))) e
+  where
+    by : (r : Reply Ticket) (others : Reply (List Ticket)) → r ≡ unpackTicket (take 13 s) → ((m : ℕ) → others ≡ refused m → m ≡ 8) → ticketThen r others ≡ refused k → k ≡ 8
+    by (refused m) others u v h = let same : m ≡ k = cc in sym same ∙ refused-by-8 (take 13 s) m (length-take-le 13 s (omega arith)) u
+    by (done t) (refused m) u v h = let same : m ≡ k = cc in sym same ∙ v m refl
+    by (done t) (done ts) u v h = let z : _≡_ {A = ℕ} 0 1 = cc in absurd (omega arith)
+
+-- ## What opened bytes hold
+
+module _ (s : List ℕ) where
+  abbrev inside : Reply (List Ticket)
+  inside = unpackTickets (length s / ticketLength) s
+
+  -- bytes of a right size hold what unpacks
+  pub sized-hold : isTicketsLength (length s) ≡ true → plainTickets s ≡ inside
+  unfolding plainTickets
+  sized-hold h = rw h
+
+  pub wrong-hold : isTicketsLength (length s) ≡ false → plainTickets s ≡ refused 2
+  unfolding plainTickets
+  wrong-hold h = rw h
+
+  -- which size they are of, by what they hold
+  by-size : (P : Type 0) → (isTicketsLength (length s) ≡ true → P) → (isTicketsLength (length s) ≡ false → P) → P
+  by-size P right wrong = by (isTicketsLength (length s)) refl
+    where
+      by : (b : Bool) → isTicketsLength (length s) ≡ b → P
+      by true e = right e
+      by false e = wrong e
+
+  pub held-size : (ts : List Ticket) → plainTickets s ≡ done ts → isTicketsLength (length s) ≡ true
+  held-size ts e =
+      by-size (isTicketsLength (length s) ≡ true) (λ h. h)
+      (λ h. let f : refused 2 ≡ done ts = sym (wrong-hold h) ∙ e in let z : _≡_ {A = ℕ} 0 1 = cc in absurd (omega arith))
+
+  pub held-unpack : (ts : List Ticket) → plainTickets s ≡ done ts → inside ≡ done ts
+  held-unpack ts e = sym (sized-hold (held-size ts e)) ∙ e
+
+  pub held-count : (ts : List Ticket) → plainTickets s ≡ done ts → length ts ≡ length s / ticketLength
+  held-count ts e = unpacked-count (length s / ticketLength) s ts (held-unpack ts e)
+
+  pub held-few : (ts : List Ticket) → plainTickets s ≡ done ts → (length s ≡ ticketLength * length ts) × (length ts ≤ ticketLimit)
+  unfolding isTicketsLength
+  held-few ts e =
+      let p = both (eqb (length s % ticketLength) 0) (leb (length s / ticketLength) ticketLimit) (held-size ts e) in
+      let c = held-count ts e in
+      (omega (arith, c, eqb-true (length s % ticketLength) 0 (p .0)), omega (arith, c, leb-true (length s / ticketLength) ticketLimit (p .1)))
+
+  pub only-8 : (n : ℕ) → plainTickets s ≡ refused n → isTicketsLength (length s) ≡ true → n ≡ 8
+  only-8 n e h = tickets-by-8 (length s / ticketLength) s n (omega arith) (sym (sized-hold h) ∙ e)
+
+  -- another number than 2 is for bytes of a right size
+  pub refused-size : (n : ℕ) → plainTickets s ≡ refused n → (n ≡ 2 → ⊥) → isTicketsLength (length s) ≡ true
+  refused-size n e other = by-size (isTicketsLength (length s) ≡ true) (λ h. h) (λ h. let f : refused 2 ≡ refused n = sym (wrong-hold h) ∙ e in absurd (other cc))
+
+  pub only-2 : plainTickets s ≡ refused 2 → isTicketsLength (length s) ≡ false
+  only-2 e = by-size (isTicketsLength (length s) ≡ false) (λ h. let z : _≡_ {A = ℕ} 2 8 = only-8 2 e h in absurd (omega arith)) (λ h. h)
 
 pub told : (r : Reply (List Ticket)) → isRefused r ≡ false → r ≡ done (ticketsIn r)
 told (refused n) h = let z : _≡_ {A = ℕ} 0 1 = cc in absurd (omega arith)

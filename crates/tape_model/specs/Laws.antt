@@ -1,22 +1,22 @@
 -- What is shown of the definitions on tickets, heads, tapes, the reader and the listing: the statements, to be read without their proofs.
 use mathlib.Core.Path.{_≡_}
-use mathlib.Core.Bool.{Bool, true}
+use mathlib.Core.Bool.{Bool, true, false}
 use mathlib.Core.List.{List, [], _∷_, _++_}
+use mathlib.Core.Logic.{_↔_}
 use Prim.Native.Nat.{ℕ, zero, suc, _+_, _-_, _*_, _/_, _^_, _≤_, _<_}
-use lib.ListN.{length, getD, replicate}
-use Rattle.calls.specs.Calls.{AreBytes}
-use Rattle.calls.specs.Calls.{Reply, refused, done, writtenOver}
+use lib.ListN.{length, getD, replicate, take}
+use Rattle.calls.specs.Calls.{isRefused, AreBytes, Reply, refused, done, writtenOver}
 use Rattle.acorn_model.specs.Machine.{keyLength}
 use Rattle.acorn_model.specs.Message.{sealed}
 use Rattle.acorn_model.specs.RefusalCases.{string}
 use Rattle.tape_model.specs.declared.Ticket.{Ticket}
 use Rattle.tape_model.specs.declared.Head.{Head}
-use Rattle.tape_model.specs.Format.{totalWidth, widths, join, cut, Fit, byteWidths, pack, bitString}
-use Rattle.tape_model.specs.Ticket.{form1, ticketLength, ticketValues, ticketRule, packTicket, unpackTicket, headFormat, headValues, headRule, packHead, unpackHead}
-use Rattle.tape_model.specs.Tape.{ticketLimit, nonceOf, packTickets, tapeOf, isTicketsLength, unpackTickets, isRefused, totalNet, plainTotals, openTapeRefusal, openTape}
+use Rattle.tape_model.specs.Format.{totalWidth, widths, join, cut, Fit, byteWidths, pack, bitString, unpack}
+use Rattle.tape_model.specs.Ticket.{ticketLength, ticketValues, ticketRule, packTicket, unpackTicket, headFormat, headValues, headRule, packHead, unpackHead, writeRule, formatOf, formIn, headValuesIn}
+use Rattle.tape_model.specs.Tape.{unpackTickets, ticketLimit, nonceOf, packTickets, tapeOf, isTicketsLength, totalNet, Totals, plainTotals, openTapeRefusal, openTape, plainTickets}
 use Rattle.tape_model.specs.Writer.{PlainWriter, WriterCall, start, add, finish, refusal, writerCall}
 use Rattle.tape_model.specs.Reader.{Reading, ticket, atEnd, Reader, readerOver, readNext}
-use Rattle.tape_model.specs.Listing.{decimal, headLine, ticketLines, totalLine, refusedLine, listed, listing, printed, exampleText, refusedText}
+use Rattle.tape_model.specs.Listing.{decimal, headLine, ticketLines, lineOfTotals, totalLine, refusedLine, listed, listing, printed, exampleText, secondTicket, twoTicketsText, refusedText}
 use Rattle.tape_model.specs.Cases.{ticketWith}
 use Rattle.tape_model.specs.RefusalCases.{goodHead, lastByteC1}
 
@@ -36,14 +36,29 @@ pub record Inverse {A : Type 0} (rule : A → Bool) (packed : A → List ℕ) (u
   pub unpack-pack : (a : A) → rule a ≡ true → unpacked (packed a) ≡ done a
   pub pack-unpack : (string : List ℕ) (a : A) → AreBytes string → unpacked string ≡ done a → (rule a ≡ true) × (packed a ≡ string)
 
+-- every ticket of a list is valid
+abbrev pub Valid : List Ticket → Type 0
+Valid [] = Unit {0}
+Valid (t ∷ ts) = (ticketRule t ≡ true) × Valid ts
+
+-- every ticket of a list may be written
+abbrev pub Writable : List Ticket → Type 0
+Writable [] = Unit {0}
+Writable (t ∷ ts) = (writeRule t ≡ true) × Writable ts
+
 pub record TicketLaws : Type 0 where
   pub tickets : Inverse ticketRule packTicket unpackTicket
   pub heads : Inverse headRule packHead unpackHead
   -- 104 bits in 13 bytes, and 72 bits in 9, from the most significant bit of each field and byte
-  pub ticket-bits : (t : Ticket) → ticketRule t ≡ true → bitString (byteWidths 13) (packTicket t) ≡ bitString (widths form1) (ticketValues t)
-  pub ticket-width : totalWidth (widths form1) ≡ 104
-  pub head-bits : (h : Head) → headRule h ≡ true → bitString (byteWidths 9) (packHead h) ≡ bitString (widths headFormat) (headValues h)
+  pub ticket-bits : (t : Ticket) → ticketRule t ≡ true → bitString (byteWidths 13) (packTicket t) ≡ bitString (widths (formatOf (t .form))) (ticketValues t)
+  pub ticket-width : (form : ℕ) → totalWidth (widths (formatOf form)) ≡ 104
+  pub head-bits : (h : Head) → Fit (widths headFormat) (headValues h) → bitString (byteWidths 9) (packHead h) ≡ bitString (widths headFormat) (headValues h)
   pub head-width : totalWidth (widths headFormat) ≡ 72
+  -- a head in its ranges fits its fields' widths, and one that fits, in its ranges or not, comes back from its bytes as its values
+  pub head-fit : (h : Head) → headRule h ≡ true → Fit (widths headFormat) (headValues h)
+  pub head-values : (h : Head) → Fit (widths headFormat) (headValues h) → headValuesIn (packHead h) ≡ headValues h
+  -- the first four bits of a packed ticket are its form, by whichever form's fields the bytes are read
+  pub form-first : (form : ℕ) (string : List ℕ) → AreBytes string → length string ≡ ticketLength → getD (unpack (widths (formatOf form)) string) 0 0 ≡ formIn string
   -- the nonce is the head's 9 bytes and 7 zero bytes
   pub nonce : (h : Head) → nonceOf (packHead h) ≡ packHead h ++ (0 ∷ 0 ∷ 0 ∷ 0 ∷ 0 ∷ 0 ∷ 0 ∷ [])
   -- the total net of one ticket is its gross minus its tare, and that of two lists together is the sum
@@ -52,13 +67,13 @@ pub record TicketLaws : Type 0 where
   -- no two valid tickets, and no two heads, are packed alike
   pub ticket-injective : (t u : Ticket) → ticketRule t ≡ true → ticketRule u ≡ true → packTicket t ≡ packTicket u → t ≡ u
   pub head-injective : (h i : Head) → headRule h ≡ true → headRule i ≡ true → packHead h ≡ packHead i → h ≡ i
+  -- what may be written is valid, and every valid ticket may be written: one ticket, and a list
+  pub writable-valid : (t : Ticket) → writeRule t ≡ true → ticketRule t ≡ true
+  pub all-writable-valid : (ts : List Ticket) → Writable ts → Valid ts
+  pub valid-writable : (t : Ticket) → ticketRule t ≡ true → writeRule t ≡ true
+  pub all-valid-writable : (ts : List Ticket) → Valid ts → Writable ts
 
 -- ## Tapes
-
--- every ticket of a list is valid
-abbrev pub Valid : List Ticket → Type 0
-Valid [] = Unit {0}
-Valid (t ∷ ts) = (ticketRule t ≡ true) × Valid ts
 
 -- the answers of so many calls of a reader, and the reader after them
 abbrev pub readings : ℕ → Reader → List (Reply Reading)
@@ -84,12 +99,55 @@ pub record TapeLaws (key : List ℕ) (head : Head) (tickets : List Ticket) : Typ
   -- a reader over the plain bytes hands out the tickets in turn, and then stays at the end
   pub reads : readings (length tickets) (readerOver (packTickets tickets)) ≡ asReadings tickets
   pub ends : (n : ℕ) → readNext (readerAfter (length tickets + n) (readerOver (packTickets tickets))) .answer ≡ done atEnd
-  -- key and tape are listed
-  pub lists : printed (key ++ tapeOf key head tickets) ≡ headLine head ++ ticketLines 1 tickets ++ totalLine tickets
+  -- key and tape are listed, with the same number and total
+  pub lists : printed (key ++ tapeOf key head tickets) ≡ headLine head ++ ticketLines 1 tickets ++ lineOfTotals (length tickets) (totalNet tickets)
 
 abbrev pub TapesComeBack : Type 0
 TapesComeBack = (key : List ℕ) (head : Head) (tickets : List Ticket)
     → length key ≡ keyLength → headRule head ≡ true → Valid tickets → length tickets ≤ ticketLimit → TapeLaws key head tickets
+
+-- ## Tapes that open
+
+-- the tape is that of this head and these tickets, and opening it into `out` answered their totals and left `after`
+pub record OpensAs (key tape out : List ℕ) (totals : Totals) (after : List ℕ) (head : Head) (tickets : List Ticket) : Type 0 where
+  pub key-length : length key ≡ keyLength
+  pub head-right : headRule head ≡ true
+  pub valid : Valid tickets
+  pub few : length tickets ≤ ticketLimit
+  pub room : 13 * length tickets ≤ length out
+  pub tape-is : tape ≡ tapeOf key head tickets
+  pub answered : totals ≡ record { tickets = length tickets; net = totalNet tickets }
+  pub written : after ≡ writtenOver (packTickets tickets) out
+
+-- opening and writing undo each other
+pub record TapesOpenExactly : Type 0 where
+  -- bytes open exactly where they are the tape of a right head and at most 5,000 valid tickets
+  pub exactly : (key tape out : List ℕ) (totals : Totals) (after : List ℕ) → AreBytes tape
+      → (openTape key tape out ≡ record { answer = done totals; out = after })
+      ↔ ((head : Head) × (tickets : List Ticket) × OpensAs key tape out totals after head tickets)
+  -- what opens is listed, and the line of totals has the numbers that the opening answered
+  pub lists : (key tape out : List ℕ) (totals : Totals) (after : List ℕ) (head : Head) (tickets : List Ticket) → OpensAs key tape out totals after head tickets
+      → printed (key ++ tape) ≡ headLine head ++ ticketLines 1 tickets ++ lineOfTotals (totals .tickets) (totals .net)
+
+-- ## What opened bytes hold
+
+pub record PlainLaws : Type 0 where
+  -- at most 5,000 valid tickets and their plain bytes give each other back
+  pub packed : (tickets : List Ticket) → Valid tickets → length tickets ≤ ticketLimit → plainTickets (packTickets tickets) ≡ done tickets
+  pub held : (string : List ℕ) (tickets : List Ticket) → AreBytes string → plainTickets string ≡ done tickets
+      → Valid tickets × (length tickets ≤ ticketLimit) × (packTickets tickets ≡ string)
+  -- 2 exactly for a wrong length; else what each 13 of the bytes unpack to, with 8 exactly where one does not
+  pub two : (string : List ℕ) → (plainTickets string ≡ refused 2) ↔ (isTicketsLength (length string) ≡ false)
+  pub unpacks : (string : List ℕ) → isTicketsLength (length string) ≡ true → plainTickets string ≡ unpackTickets (length string / ticketLength) string
+  pub eight : (string : List ℕ) → (plainTickets string ≡ refused 8)
+      ↔ ((isTicketsLength (length string) ≡ true) × (isRefused (unpackTickets (length string / ticketLength) string) ≡ true))
+  -- and no other number
+  pub no-other : (string : List ℕ) (n : ℕ) → plainTickets string ≡ refused n → isTicketsLength (length string) ≡ true → n ≡ 8
+  -- the bytes that an opening wrote hold tickets of the totals that it answered
+  pub opened : (key tape out : List ℕ) (totals : Totals) (after : List ℕ) → openTape key tape out ≡ record { answer = done totals; out = after }
+      → plainTotals (take (ticketLength * totals .tickets) after) ≡ done totals
+
+-- ## A ticket that does not unpack
 
 -- plain bytes sealed as a tape's, whatever they are
 abbrev pub tapeWithText : List ℕ → Head → List ℕ → List ℕ
@@ -98,7 +156,7 @@ tapeWithText key head text = packHead head ++ sealed key (nonceOf (packHead head
 pub record BadTickets : Type 0 where
   -- the tag matches, and a ticket does not unpack: 8, and nothing is written
   pub eight : (key : List ℕ) (head : Head) (text out : List ℕ) → length key ≡ keyLength → headRule head ≡ true → AreBytes text
-      → isTicketsLength (length text) ≡ true → length text ≤ length out → isRefused (unpackTickets (length text / ticketLength) text) ≡ true
+      → length text ≤ length out → plainTickets text ≡ refused 8
       → openTape key (tapeWithText key head text) out ≡ record { answer = refused 8; out = out }
   -- document 01's example
   pub last-byte-C1 : (key out : List ℕ) → length key ≡ keyLength → 13 ≤ length out
@@ -130,10 +188,15 @@ pub record ListingLaws : Type 0 where
   pub zero-digit : decimal 0 ≡ 0x30 ∷ []
   -- positions go up by one: behind other tickets the lines go on from their number
   pub positions : (position : ℕ) (ts us : List Ticket) → ticketLines position (ts ++ us) ≡ ticketLines position ts ++ ticketLines (position + length ts) us
+  -- the line of totals has those of all tickets
+  pub totals-none : totalLine [] ≡ lineOfTotals 0 0
+  pub totals : (ts us : List Ticket) → totalLine (ts ++ us) ≡ lineOfTotals (length ts + length us) (totalNet ts + totalNet us)
   -- a refusal is printed alone; a key cut short is 2
   pub refusal : (key tape : List ℕ) (n : ℕ) → openTapeRefusal key tape (replicate (length tape) 0) ≡ suc n → listing key tape ≡ refusedLine (suc n)
   pub short-key : (input : List ℕ) → length input < keyLength → printed input ≡ refusedLine 2
   -- document 01's example
   pub example : listed (done (record { device = 7; shift = 2; sheet = 1 })) (ticketWith 3600 4200 250000 110000 ∷ []) ≡ exampleText
+  -- and of two tickets
+  pub two-tickets : listed (done (record { device = 7; shift = 2; sheet = 1 })) (ticketWith 3600 4200 250000 110000 ∷ secondTicket ∷ []) ≡ twoTicketsText
   -- a key and a tape of 37 bytes
   pub refused-example : printed (string 16 ++ string 37) ≡ refusedText

@@ -8,7 +8,7 @@ use Rattle.acorn_model.specs.Machine.{keyLength}
 use Rattle.tape_model.specs.declared.Ticket.{Ticket}
 use Rattle.tape_model.specs.declared.Head.{Head}
 use Rattle.tape_model.specs.Ticket.{net, unpackHead}
-use Rattle.tape_model.specs.Tape.{totalNet, unpackTickets, ticketsIn, headBytes, ticketCount, plainBytes, openTapeRefusal}
+use Rattle.tape_model.specs.Tape.{totalNet, plainTickets, ticketsIn, headBytes, plainBytes, openTapeRefusal}
 
 -- ## Words and numbers
 
@@ -60,11 +60,11 @@ ticketLines position [] = []
 ticketLines position (t ∷ ts) = ticketLine position t ++ ticketLines (position + 1) ts
 
 -- by the number of tickets and their total net
-abbrev pub totalsLine : ℕ → ℕ → List ℕ
-totalsLine tickets net = wordTotal ++ numbers (tickets ∷ net ∷ []) ++ lineEnd
+abbrev pub lineOfTotals : ℕ → ℕ → List ℕ
+lineOfTotals tickets net = wordTotal ++ numbers (tickets ∷ net ∷ []) ++ lineEnd
 
 unfoldable pub totalLine : List Ticket → List ℕ
-totalLine ts = totalsLine (length ts) (totalNet ts)
+totalLine ts = lineOfTotals (length ts) (totalNet ts)
 
 unfoldable pub refusedLine : ℕ → List ℕ
 refusedLine n = wordRefused ++ numbers (n ∷ []) ++ lineEnd
@@ -77,7 +77,7 @@ listed (done h) ts = headLine h ++ ticketLines 1 ts ++ totalLine ts
 
 -- by the number that refuses to open the tape, into room enough for its plain bytes: the listing, or the refusal alone
 unfoldable pub listingUnless : ℕ → List ℕ → List ℕ → List ℕ
-listingUnless zero key tape = listed (unpackHead (headBytes tape)) (ticketsIn (unpackTickets (ticketCount tape) (plainBytes key tape)))
+listingUnless zero key tape = listed (unpackHead (headBytes tape)) (ticketsIn (plainTickets (plainBytes key tape)))
 listingUnless (suc n) key tape = refusedLine (suc n)
 
 unfoldable pub listing : List ℕ → List ℕ → List ℕ
@@ -95,6 +95,22 @@ exampleText =
     (0x54 ∷ 0x41 ∷ 0x50 ∷ 0x45 ∷ 0x20 ∷ 0x37 ∷ 0x20 ∷ 0x32 ∷ 0x20 ∷ 0x31 ∷ 0x0a ∷ [])
     ++ (0x31 ∷ 0x20 ∷ 0x35 ∷ 0x20 ∷ 0x32 ∷ 0x20 ∷ 0x33 ∷ 0x20 ∷ 0x34 ∷ 0x20 ∷ 0x33 ∷ 0x36 ∷ 0x30 ∷ 0x30 ∷ 0x20 ∷ 0x34 ∷ 0x32 ∷ 0x30 ∷ 0x30 ∷ 0x20 ∷ 0x31 ∷ 0x34 ∷ 0x30 ∷ 0x30 ∷ 0x30 ∷ 0x30 ∷ 0x0a ∷ [])
     ++ (0x54 ∷ 0x4f ∷ 0x54 ∷ 0x41 ∷ 0x4c ∷ 0x20 ∷ 0x31 ∷ 0x20 ∷ 0x31 ∷ 0x34 ∷ 0x30 ∷ 0x30 ∷ 0x30 ∷ 0x30 ∷ 0x0a ∷ [])
+
+-- ## An example of two tickets
+
+-- behind document 01's ticket
+abbrev pub secondTicket : Ticket
+secondTicket = record { form = 1; truck = 12; shovel = 1; tip = 63; grade = 0; loaded = 4000; tipped = 4100; gross = 90501; tare = 30404 }
+
+-- 'TAPE 7 2 1', '1 5 2 3 4 3600 4200 140000', '2 12 1 63 0 4000 4100 60097' and 'TOTAL 2 200097', a line each
+abbrev pub twoTicketsText : List ℕ
+twoTicketsText =
+    (0x54 ∷ 0x41 ∷ 0x50 ∷ 0x45 ∷ 0x20 ∷ 0x37 ∷ 0x20 ∷ 0x32 ∷ 0x20 ∷ 0x31 ∷ 0x0a ∷ [])
+    ++ (0x31 ∷ 0x20 ∷ 0x35 ∷ 0x20 ∷ 0x32 ∷ 0x20 ∷ 0x33 ∷ 0x20 ∷ 0x34 ∷ 0x20 ∷ 0x33 ∷ 0x36 ∷ 0x30 ∷ 0x30 ∷ 0x20 ∷ 0x34 ∷ 0x32 ∷ 0x30 ∷ 0x30 ∷ 0x20 ∷ 0x31 ∷ 0x34 ∷ 0x30 ∷ 0x30 ∷ 0x30 ∷ 0x30 ∷ 0x0a ∷ [])
+    ++ (0x32 ∷ 0x20 ∷ 0x31 ∷ 0x32 ∷ 0x20 ∷ 0x31 ∷ 0x20 ∷ 0x36 ∷ 0x33 ∷ 0x20 ∷ 0x30 ∷ 0x20 ∷ 0x34 ∷ 0x30 ∷ 0x30 ∷ 0x30 ∷ 0x20 ∷ 0x34 ∷ 0x31 ∷ 0x30 ∷ 0x30 ∷ 0x20 ∷ 0x36 ∷ 0x30 ∷ 0x30 ∷ 0x39 ∷ 0x37 ∷ 0x0a ∷ [])
+    ++ (0x54 ∷ 0x4f ∷ 0x54 ∷ 0x41 ∷ 0x4c ∷ 0x20 ∷ 0x32 ∷ 0x20 ∷ 0x32 ∷ 0x30 ∷ 0x30 ∷ 0x30 ∷ 0x39 ∷ 0x37 ∷ 0x0a ∷ [])
+
+-- ## A refusal
 
 -- 'REFUSED 2', a line
 abbrev pub refusedText : List ℕ

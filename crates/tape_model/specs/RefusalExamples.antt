@@ -7,8 +7,7 @@ use lib.Dec.{leb}
 use lib.ListN.{length}
 use Rattle.acorn_model.specs.declared.Kind.{Kind}
 use Rattle.acorn_model.specs.declared.Kind.the-variants.{Sealing}
-use Rattle.calls.specs.Calls.{AreBytes}
-use Rattle.calls.specs.Calls.{_if_else_, Reply, refused, done, accepted}
+use Rattle.calls.specs.Calls.{AreBytes, _if_else_, Reply, refused, done, accepted}
 use Rattle.calls.specs.Lists.{handedOn}
 use Rattle.acorn_model.specs.Machine.{fresh, Call, begin, dataCall, sealText, sealClose, keyLength, call}
 use Rattle.acorn_model.specs.Message.{sealed, sealMessage, openMessage}

@@ -1,14 +1,16 @@
 -- Document 01, "Ticket, head, tape", on tapes: what a tape is, and what opening one gives.
-use mathlib.Core.Bool.{Bool, true, false, not, _&&_}
+use mathlib.Core.Bool.{Bool, not, _&&_}
 use mathlib.Core.List.{List, [], _∷_, _++_}
 use Prim.Native.Nat.{ℕ, zero, suc, _+_, _-_, _*_, _/_, _%_}
 use lib.Dec.{leb, ltb, eqb}
 use lib.ListN.{length, take, drop, replicate}
-use Rattle.calls.specs.Calls.{_if_else_, Reply, refused, done, accepted, Result, resultOf}
+use Rattle.calls.specs.Calls.{isRefused, _if_else_, Reply, refused, done, accepted, Result, resultOf}
 use Rattle.acorn_model.specs.Machine.{keyLength}
 use Rattle.acorn_model.specs.Message.{sealed, tagMatches, opened}
 use Rattle.tape_model.specs.declared.Ticket.{Ticket}
 use Rattle.tape_model.specs.declared.Head.{Head}
+use Rattle.tape_model.specs.declared.TicketTotals.{TicketTotals}
+use Rattle.tape_model.specs.declared.TicketTotals.the-variants.{Refused as NoTotals, Done as TotalsDone}
 use Rattle.tape_model.specs.declared.OpenedTape.{OpenedTape}
 use Rattle.tape_model.specs.declared.OpenedTape.the-variants.{Refused, Done}
 use Rattle.tape_model.specs.Ticket.{ticketLength, net, packTicket, unpackTicket, headLength, packHead, unpackHead}
@@ -53,9 +55,9 @@ unfoldable pub unpackTickets : ℕ → List ℕ → Reply (List Ticket)
 unpackTickets zero string = done []
 unpackTickets (suc n) string = ticketThen (unpackTicket (take ticketLength string)) (unpackTickets n (drop ticketLength string))
 
-abbrev pub isRefused : {A : Type 0} → Reply A → Bool
-isRefused (refused n) = true
-isRefused (done a) = false
+-- the tickets that opened bytes hold: 2 for a wrong length, 8 where a ticket does not unpack
+unfoldable pub plainTickets : List ℕ → Reply (List Ticket)
+plainTickets string = refused 2 if not (isTicketsLength (length string)) else unpackTickets (length string / ticketLength) string
 
 abbrev pub ticketsIn : Reply (List Ticket) → List Ticket
 ticketsIn (refused n) = []
@@ -74,9 +76,8 @@ unfoldable pub totalsOf : Reply (List Ticket) → Reply Totals
 totalsOf (refused n) = refused n
 totalsOf (done ts) = done (record { tickets = length ts; net = totalNet ts })
 
--- the totals of plain bytes: 2 for a wrong length, 8 where a ticket does not unpack
 unfoldable pub plainTotals : List ℕ → Reply Totals
-plainTotals string = refused 2 if not (isTicketsLength (length string)) else totalsOf (unpackTickets (length string / ticketLength) string)
+plainTotals string = totalsOf (plainTickets string)
 
 -- ## Opening
 
@@ -114,7 +115,12 @@ module _ (key tape : List ℕ) where
   unfoldable pub openTape : List ℕ → Result Totals
   openTape out = resultOf (openTapeRefusal out) (record { tickets = ticketCount tape; net = totalNet (ticketsIn (unpackTickets (ticketCount tape) plainBytes)) }) plainBytes out
 
--- document 01's number and values for each case of the answer in code
+-- ## Document 01's number and values for each case of the answers in code
+
+unfoldable pub totalsReply : TicketTotals → Reply Totals
+totalsReply (NoTotals n) = refused n
+totalsReply (TotalsDone tickets net) = done (record { tickets = tickets; net = net })
+
 unfoldable pub openedReply : OpenedTape → Reply Totals
 openedReply (Refused n) = refused n
 openedReply (Done tickets net) = done (record { tickets = tickets; net = net })

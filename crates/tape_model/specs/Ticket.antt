@@ -1,10 +1,10 @@
 -- Document 01, "Ticket, head, tape", on tickets and heads: their formats and rules, how they are packed, and what bytes unpack to.
 use mathlib.Core.Bool.{Bool, not, _&&_}
 use mathlib.Core.List.{List, [], _∷_}
-use Prim.Native.Nat.{ℕ, _-_}
+use Prim.Native.Nat.{ℕ, _-_, _/_}
 use lib.Dec.{leb, ltb, eqb}
 use lib.ListN.{length, getD}
-use Rattle.calls.specs.Calls.{_if_else_, Reply, refused, done, accepted, Result, resultOf}
+use Rattle.calls.specs.Calls.{replyOf, _if_else_, Reply, refused, done, accepted, Result, resultOf}
 use Rattle.tape_model.specs.declared.Ticket.{Ticket}
 use Rattle.tape_model.specs.declared.Head.{Head}
 use Rattle.tape_model.specs.declared.UnpackedTicket.{UnpackedTicket}
@@ -15,7 +15,7 @@ use Rattle.tape_model.specs.Format.{Field, _bits_to_, widths, inRanges, 
 
 -- ## Tickets
 
--- form, truck, shovel, tip point, grade, loaded, tipped, gross, tare, spare
+-- form 1: form, truck, shovel, tip point, grade, loaded, tipped, gross, tare, spare
 abbrev pub form1 : List Field
 form1 =
     4 bits 1 to 1
@@ -30,11 +30,15 @@ form1 =
     ∷ 2 bits 0 to 0
     ∷ []
 
+-- the fields of a ticket of this form: form 1's, whose first row refuses every other form
+abbrev pub formatOf : ℕ → List Field
+formatOf form = form1
+
 -- the bytes of a packed ticket
 abbrev pub ticketLength : ℕ
 ticketLength = 13
 
--- a ticket's values in the order of its form, the spare bits zeros; and the ticket of such values
+-- a ticket's values in the order of its fields, the spare bits zeros; and the ticket of such values
 abbrev pub ticketValues : Ticket → List ℕ
 ticketValues t = t .form ∷ t .truck ∷ t .shovel ∷ t .tip ∷ t .grade ∷ t .loaded ∷ t .tipped ∷ t .gross ∷ t .tare ∷ 0 ∷ []
 
@@ -56,29 +60,49 @@ ticketOf vs =
 unfoldable pub ordered : Ticket → Bool
 ordered t = leb (t .loaded) (t .tipped) && ltb (t .tare) (t .gross)
 
--- the ticket rule, of values (the spare bits among them) and of a ticket
+-- the ticket rule, of values (the form first, the spare bits among them) and of a ticket
 unfoldable pub valuesRule : List ℕ → Bool
-valuesRule vs = inRanges form1 vs && ordered (ticketOf vs)
+valuesRule vs = inRanges (formatOf (getD vs 0 0)) vs && ordered (ticketOf vs)
 
 unfoldable pub ticketRule : Ticket → Bool
 ticketRule t = valuesRule (ticketValues t)
+
+-- the rule for a ticket that is to be written: every valid one may be
+abbrev pub writeRule : Ticket → Bool
+writeRule t = ticketRule t
 
 unfoldable pub net : Ticket → ℕ
 net t = t .gross - t .tare
 
 unfoldable pub packTicket : Ticket → List ℕ
-packTicket t = pack (widths form1) ticketLength (ticketValues t)
+packTicket t = pack (widths (formatOf (t .form))) ticketLength (ticketValues t)
+
+-- the form in packed bytes, which is their first four bits; and the values in them
+abbrev pub formIn : List ℕ → ℕ
+formIn string = getD string 0 0 / 16
+
+abbrev pub ticketValuesIn : List ℕ → List ℕ
+ticketValuesIn string = unpack (widths (formatOf (formIn string))) string
 
 -- the ticket in packed bytes: 2 for another size, 8 where the values break the rule
+abbrev pub unpackTicketRefusal : List ℕ → ℕ
+unpackTicketRefusal string =
+    2 if not (eqb (length string) ticketLength) else
+    8 if not (valuesRule (ticketValuesIn string)) else
+    accepted
+
 unfoldable pub unpackTicket : List ℕ → Reply Ticket
-unpackTicket string =
-    refused 2 if not (eqb (length string) ticketLength) else
-    refused 8 if not (valuesRule (unpack (widths form1) string)) else
-    done (ticketOf (unpack (widths form1) string))
+unpackTicket string = replyOf (unpackTicketRefusal string) (ticketOf (ticketValuesIn string))
 
 -- a ticket packed into lent bytes: 4, then 6
+abbrev pub packTicketRefusal : Ticket → List ℕ → ℕ
+packTicketRefusal t out =
+    4 if not (ticketRule t) else
+    6 if ltb (length out) ticketLength else
+    accepted
+
 unfoldable pub packTicketInto : Ticket → List ℕ → Result ℕ
-packTicketInto t out = resultOf (4 if not (ticketRule t) else 6 if ltb (length out) ticketLength else accepted) ticketLength (packTicket t) out
+packTicketInto t out = resultOf (packTicketRefusal t out) ticketLength (packTicket t) out
 
 -- ## Heads
 
@@ -106,16 +130,28 @@ headRule h = inRanges headFormat (headValues h)
 unfoldable pub packHead : Head → List ℕ
 packHead h = pack (widths headFormat) headLength (headValues h)
 
+abbrev pub headValuesIn : List ℕ → List ℕ
+headValuesIn string = unpack (widths headFormat) string
+
 -- the head in packed bytes: 2 for another size, 3 for a field outside its range
+abbrev pub unpackHeadRefusal : List ℕ → ℕ
+unpackHeadRefusal string =
+    2 if not (eqb (length string) headLength) else
+    3 if not (inRanges headFormat (headValuesIn string)) else
+    accepted
+
 unfoldable pub unpackHead : List ℕ → Reply Head
-unpackHead string =
-    refused 2 if not (eqb (length string) headLength) else
-    refused 3 if not (inRanges headFormat (unpack (widths headFormat) string)) else
-    done (headOf (unpack (widths headFormat) string))
+unpackHead string = replyOf (unpackHeadRefusal string) (headOf (headValuesIn string))
 
 -- a head packed into lent bytes: 3, then 6
+abbrev pub packHeadRefusal : Head → List ℕ → ℕ
+packHeadRefusal h out =
+    3 if not (headRule h) else
+    6 if ltb (length out) headLength else
+    accepted
+
 unfoldable pub packHeadInto : Head → List ℕ → Result ℕ
-packHeadInto h out = resultOf (3 if not (headRule h) else 6 if ltb (length out) headLength else accepted) headLength (packHead h) out
+packHeadInto h out = resultOf (packHeadRefusal h out) headLength (packHead h) out
 
 -- ## Document 01's number and values for each case of the answers in code
 

@@ -11,7 +11,7 @@ use Rattle.tape_model.specs.declared.Ticket.{Ticket}
 use Rattle.tape_model.specs.declared.Head.{Head}
 use Rattle.tape_model.specs.declared.WriterPhase.{WriterPhase}
 use Rattle.tape_model.specs.declared.WriterPhase.the-variants.{Fresh, Open, Closed}
-use Rattle.tape_model.specs.Ticket.{ticketLength, ticketRule, packTicket, headLength, headRule, packHead}
+use Rattle.tape_model.specs.Ticket.{ticketLength, writeRule, packTicket, headLength, headRule, packHead}
 use Rattle.tape_model.specs.Tape.{ticketLimit, tapeTagLength, nonceOf}
 
 pub record PlainWriter : Type 0 where
@@ -62,10 +62,6 @@ unfoldable pub headRight : WriterCall → Bool
 headRight (start key head out) = headRule head
 headRight (add ticket out) = true
 headRight (finish out) = true
-
--- the rule for a ticket to be written
-abbrev pub writeRule : Ticket → Bool
-writeRule ticket = ticketRule ticket
 
 -- 4
 unfoldable pub ticketRight : WriterCall → Bool

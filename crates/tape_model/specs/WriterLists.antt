@@ -47,7 +47,7 @@ writerLog (e ∷ es) =
       written = writtenBy (e .answer) (e .out) ++ writerLog es .written;
     }
 
--- the nine bytes of the accepted head; none where no start was accepted
+-- the nine bytes of every accepted head; none where no start was accepted
 unfoldable pub headsOf : List Started → List ℕ
 headsOf [] = []
-headsOf (s ∷ ss) = packHead (s .head)
+headsOf (s ∷ ss) = packHead (s .head) ++ headsOf ss

@@ -37,7 +37,13 @@ pub enum UnpackedHead {
     Done(Head),
 }
 
-// The answer of opening a tape: a refusal number, or the number of tickets and their total net.
+// The answer of summing up opened bytes: a refusal number, or the number of tickets and their total net.
+pub enum TicketTotals {
+    Refused(u8),
+    Done(usize, u64),
+}
+
+// The answer of opening a tape: the same.
 pub enum OpenedTape {
     Refused(u8),
     Done(usize, u64),

@@ -1,3 +1,4 @@
+pub mod Nonce
 pub mod Reading
 pub mod Summing
 pub mod WordBytes

@@ -1,28 +1,19 @@
 -- The totals of plain bytes, ticket by ticket: what stands before a place, and what is left behind it.
 use Prim.Native.Nat.{ℕ, suc, _+_, _-_, _*_, _/_, _%_, _<_, _≤_}
 use mathlib.Core.Path.{_≡_, refl, sym, ap, ap₂, _∙_}
-use mathlib.Core.Bool.{Bool, true, false, not}
+use mathlib.Core.Bool.{Bool, false, not}
 use mathlib.Core.List.{List}
 use native.Mathlib.Omega.{arith}
 use lib.ListN.{length, take, drop, length-drop}
 use lib.Seq.{drop-drop, length-take-le}
 use lib.Dec.{eqb, leb}
-use borrow.Author.Tests.{eq-eqb, leb-true, not-false}
-use Rattle.calls.specs.Calls.{_if_else_, Reply, refused, done}
+use borrow.Author.Tests.{leb-true, not-false}
+use Rattle.calls.specs.Calls.{Reply, refused, done}
 use Rattle.calls.proofs.Choices.{both}
 use Rattle.tape_model.specs.declared.Ticket.{Ticket}
-use Rattle.tape_model.specs.Format.{widths, unpack}
-use Rattle.tape_model.specs.Ticket.{form1, ticketOf, valuesRule, net, unpackTicket}
-use Rattle.tape_model.specs.Tape.{Totals, isTicketsLength, ticketThen, unpackTickets, totalNet, totalsOf, plainTotals}
-
--- 13 bytes are refused for their values alone
-pub refused-by-8 : (s : List ℕ) (n : ℕ) → length s ≡ 13 → refused n ≡ unpackTicket s → n ≡ 8
-unfolding unpackTicket
-refused-by-8 s n e r = let vs = unpack (widths form1) s in by (ticketOf vs) (valuesRule vs) (rw (eq-eqb (length s) 13 e) at r)
-  where
-    by : (t : Ticket) (b : Bool) → refused n ≡ (refused 8 if not b else done t) → n ≡ 8
-    by t true h = let z : _≡_ {A = ℕ} 0 1 = cc in absurd (omega arith)
-    by t false h = cc
+use Rattle.tape_model.specs.Ticket.{net, unpackTicket}
+use Rattle.tape_model.specs.Tape.{Totals, isTicketsLength, ticketThen, unpackTickets, plainTickets, totalNet, totalsOf, plainTotals}
+use Rattle.tape_model.proofs.Unpacking.{refused-by-8}
 
 -- ## The totals with k tickets of this sum before
 
@@ -89,5 +80,5 @@ module _ (s : List ℕ) (r : Bool) (sized : r ≡ isTicketsLength (length s)) (r
   few-tickets = leb-true (length s / 13) 5000 (both (eqb (length s % 13) 0) (leb (length s / 13) 5000) (sym sized ∙ not-false r right) .1)
 
   pub length-allowed : (a : Reply Totals) → a ≡ totalsOf (unpackTickets (length s / 13) s) → a ≡ plainTotals s
-  unfolding plainTotals
+  unfolding plainTotals plainTickets totalsOf
   length-allowed a f = rw (sym sized, right) f

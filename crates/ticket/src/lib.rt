@@ -8,12 +8,16 @@ ghost use Prim.Native.Nat.{ℕ, _+_, _*_, _/_, _%_, _^_, _<_};
 ghost use Rattle.calls.specs.Calls.{writtenReply, putInto};
 ghost use Rattle.tape_model.specs.Format.{join, cut, byteWidths, widths};
 ghost use Rattle.tape_model.specs.Ticket as model;
-ghost use Rattle.tape_model.specs.Tape.{isTicketsLength, plainTotals, openedReply};
-ghost use Rattle.ticket.specs.Packing.{packedOrZeros};
+ghost use Rattle.tape_model.specs.Tape.{isTicketsLength, plainTotals, totalsReply};
+ghost use Rattle.ticket.specs.Packing.{packedOrZeros, nonceOrZeros};
+ghost use Rattle.ticket.specs.Contracts.{PacksTicket, PacksHead, UnpacksTicket, UnpacksHead};
 use calls::Written;
+use tape_model::HEAD_LENGTH;
 use tape_model::Head;
-use tape_model::OpenedTape;
+use tape_model::TICKET_LENGTH;
+use tape_model::TICKET_LIMIT;
 use tape_model::Ticket;
+use tape_model::TicketTotals;
 use tape_model::UnpackedHead;
 use tape_model::UnpackedTicket;
 
@@ -30,6 +34,13 @@ pub fn valid(t: Ticket) -> bool
         & (t.gross <= 1048575)
         & (t.loaded <= t.tipped)
         & (t.tare < t.gross)
+}
+
+// The rule for a ticket that is to be written.
+pub fn writable(t: Ticket) -> bool
+    ensures { λ r. ⌜ r ≡ model.writeRule t ⌝ }
+{
+    valid(t)
 }
 
 // Gross minus tare; 0 where tare is above gross.
@@ -61,7 +72,7 @@ struct Words {
 // The number of a ticket.
 fn words_of(t: Ticket) -> Words
     requires { ⌜ model.ticketRule t ≡ true ⌝ }
-    ensures { λ r. ⌜ (r .low < 2 ^ 40) × (r .high * 2 ^ 40 + r .low ≡ join (widths model.form1) (model.ticketValues t)) ⌝ }
+    ensures { λ r. ⌜ (r .low < 2 ^ 40) × (r .high * 2 ^ 40 + r .low ≡ join (widths (model.formatOf (t .form))) (model.ticketValues t)) ⌝ }
 {
     let gross = t.gross as u64;
     let load = (((t.form as u64) * 1024 + (t.truck as u64)) * 64 + (t.shovel as u64)) * 1024
@@ -106,13 +117,13 @@ fn packed_ticket(t: Ticket) -> [u8; 13]
     ticket_bytes(words_of(t))
 }
 
-// A packed head: 32 bits, and 40.
-fn packed_head(h: Head) -> [u8; 9]
-    requires { ⌜ model.headRule h ≡ true ⌝ }
+// A packed head, by 32 bits and 40, whatever its values. Where a value is too wide for its field, it runs over into the one before it, as in the
+// number that the packed bytes are.
+pub fn packed_head(h: Head) -> [u8; 9]
     ensures { λ r. ⌜ r ≡ model.packHead h ⌝ }
 {
-    let d = h.device;
     let l = (h.shift as u64) * 0x10_0000 + (h.sheet as u64);
+    let d = (h.device as u64) + l / 0x100_0000_0000;
     [
         (d / 0x100_0000 % 256) as u8,
         (d / 0x1_0000 % 256) as u8,
@@ -127,7 +138,7 @@ fn packed_head(h: Head) -> [u8; 9]
 }
 
 // Writes bytes at the start of the output: 6 where it is too short.
-pub fn put(packed: &[u8], out: &mut [u8]) -> Written
+fn put(packed: &[u8], out: &mut [u8]) -> Written
     ensures { λ r. ⌜ putInto (now (packed .entry)) (now (out .entry)) ≡ record { answer = writtenReply r; out = now (out .exit) } ⌝ }
 {
     if out.len() < packed.len() {
@@ -139,14 +150,13 @@ pub fn put(packed: &[u8], out: &mut [u8]) -> Written
 
 // Writes a packed ticket: 4 for one that breaks the rule, 6 for an output under 13 bytes.
 pub fn pack_ticket(t: Ticket, out: &mut [u8]) -> Written
-    ensures { λ r. ⌜ model.packTicketInto t (now (out .entry)) ≡ record { answer = writtenReply r; out = now (out .exit) } ⌝ }
+    ensures { λ r. ⌜ PacksTicket t (now (out .entry)) r (now (out .exit)) ⌝ }
 {
-    if valid(t) {
-        let packed = packed_ticket(t);
-        put(&packed, out)
-    } else {
-        Written::Refused(4)
+    if !valid(t) {
+        return Written::Refused(4);
     }
+    let packed = packed_ticket(t);
+    put(&packed, out)
 }
 
 // A packed ticket by value: zeros for one that breaks the rule.
@@ -158,19 +168,18 @@ pub fn packed(t: Ticket) -> [u8; 13]
 
 // Writes a packed head: 3 for one that breaks the rule, 6 for an output under 9 bytes.
 pub fn pack_head(h: Head, out: &mut [u8]) -> Written
-    ensures { λ r. ⌜ model.packHeadInto h (now (out .entry)) ≡ record { answer = writtenReply r; out = now (out .exit) } ⌝ }
+    ensures { λ r. ⌜ PacksHead h (now (out .entry)) r (now (out .exit)) ⌝ }
 {
-    if head_valid(h) {
-        let packed = packed_head(h);
-        put(&packed, out)
-    } else {
-        Written::Refused(3)
+    if !head_valid(h) {
+        return Written::Refused(3);
     }
+    let packed = packed_head(h);
+    put(&packed, out)
 }
 
 // The ticket in a number of 104 bits, by its first 64 bits and its last 64.
 fn ticket_in(h: u64, l: u64) -> Ticket
-    ensures { λ r. ⌜ ((n : ℕ) → h ≡ n / 2 ^ 40 → l ≡ n % 2 ^ 64 → r ≡ model.ticketOf (cut (widths model.form1) n)) ⌝ }
+    ensures { λ r. ⌜ ((n : ℕ) → h ≡ n / 2 ^ 40 → l ≡ n % 2 ^ 64 → r ≡ model.ticketOf (cut (widths (model.formatOf (n / 2 ^ 100))) n)) ⌝ }
 {
     Ticket {
         form: (h / 0x1000_0000_0000_0000) as u8,
@@ -187,9 +196,9 @@ fn ticket_in(h: u64, l: u64) -> Ticket
 
 // The ticket in packed bytes: 2 for another size than 13, 8 where its values or spare bits break the rule.
 pub fn unpack_ticket(packed: &[u8]) -> UnpackedTicket
-    ensures { λ r. ⌜ model.ticketReply r ≡ model.unpackTicket (now (packed .entry)) ⌝ }
+    ensures { λ r. ⌜ UnpacksTicket (now (packed .entry)) r ⌝ }
 {
-    if packed.len() != 13 {
+    if packed.len() != TICKET_LENGTH {
         return UnpackedTicket::Refused(2);
     }
     let h = word::read(&packed[0..8]);
@@ -204,9 +213,9 @@ pub fn unpack_ticket(packed: &[u8]) -> UnpackedTicket
 
 // The head in packed bytes: 2 for another size than 9, 3 for a field outside its range.
 pub fn unpack_head(packed: &[u8]) -> UnpackedHead
-    ensures { λ r. ⌜ model.headReply r ≡ model.unpackHead (now (packed .entry)) ⌝ }
+    ensures { λ r. ⌜ UnpacksHead (now (packed .entry)) r ⌝ }
 {
-    if packed.len() != 9 {
+    if packed.len() != HEAD_LENGTH {
         return UnpackedHead::Refused(2);
     }
     let h = word::read(&packed[0..8]);
@@ -227,28 +236,39 @@ pub fn unpack_head(packed: &[u8]) -> UnpackedHead
 pub fn is_tickets_length(n: usize) -> bool
     ensures { λ r. ⌜ r ≡ isTicketsLength n ⌝ }
 {
-    (n % 13 == 0) & (n / 13 <= 5000)
+    (n % TICKET_LENGTH == 0) & (n / TICKET_LENGTH <= TICKET_LIMIT)
 }
 
 // The totals of plain bytes: 2 where they are not 13 for each of at most 5,000 tickets, 8 where one does not unpack.
-pub fn totals(plain: &[u8]) -> OpenedTape
-    ensures { λ r. ⌜ openedReply r ≡ plainTotals (now (plain .entry)) ⌝ }
+pub fn totals(plain: &[u8]) -> TicketTotals
+    ensures { λ r. ⌜ totalsReply r ≡ plainTotals (now (plain .entry)) ⌝ }
 {
     let size = plain.len();
     if !is_tickets_length(size) {
-        return OpenedTape::Refused(2);
+        return TicketTotals::Refused(2);
     }
-    let tickets = size / 13;
+    let tickets = size / TICKET_LENGTH;
     let mut i: usize = 0;
     let mut sum: u64 = 0;
     while i < tickets {
-        let at = 13 * i;
-        let end = at + 13;
+        let at = TICKET_LENGTH * i;
+        let end = at + TICKET_LENGTH;
         let UnpackedTicket::Done(t) = unpack_ticket(&plain[at..end]) else {
-            return OpenedTape::Refused(8);
+            return TicketTotals::Refused(8);
         };
         sum += net(t) as u64;
         i += 1;
     }
-    OpenedTape::Done(tickets, sum)
+    TicketTotals::Done(tickets, sum)
+}
+
+// The nonce of a head's 9 bytes, which are filled up with zeros; all zeros for another size.
+pub fn nonce_of(head: &[u8]) -> [u8; 16]
+    ensures { λ r. ⌜ r ≡ nonceOrZeros (now (head .entry)) ⌝ }
+{
+    let mut nonce = [0; 16];
+    if head.len() == HEAD_LENGTH {
+        bytes::copy(head, &mut nonce);
+    }
+    nonce
 }

@@ -1,8 +1,8 @@
 // Runs document 01's cases (h) to (l) on the code of tickets and heads, then totals of plain bytes, and prints what they give.
 use calls::Written;
 use tape_model::Head;
-use tape_model::OpenedTape;
 use tape_model::Ticket;
+use tape_model::TicketTotals;
 use tape_model::UnpackedHead;
 use tape_model::UnpackedTicket;
 
@@ -97,13 +97,13 @@ fn print_by_value(packed: [u8; 13]) {
     io::write_all(1, b"\n");
 }
 
-fn print_totals(answer: OpenedTape) {
+fn print_totals(answer: TicketTotals) {
     match answer {
-        OpenedTape::Refused(n) => {
+        TicketTotals::Refused(n) => {
             io::write_all(1, b" refused");
             print_number(n as u64);
         }
-        OpenedTape::Done(tickets, net) => {
+        TicketTotals::Done(tickets, net) => {
             print_number(tickets as u64);
             io::write_all(1, b" net");
             print_number(net);

@@ -1,7 +1,7 @@
 -- `ht_writer_fresh` meets its contract.
 use mathlib.Core.Path.{ap, _∙_}
 use borrow.Author.Needs.{needs}
-use Rattle.tape.specs.Words.{writerWordsFor}
+use Rattle.tape_writer.specs.Words.{writerWordsFor}
 use Rattle.haul_tape.proofs.ht_writer_fresh.Statement.{statement}
 use Rattle.haul_tape.proofs.ht_writer_fresh.Tie as tie
 

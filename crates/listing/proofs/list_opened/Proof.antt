@@ -3,10 +3,9 @@ use mathlib.Core.Path.{ap, _∙_}
 use borrow.Author.Needs.{needs}
 use Rattle.tape_model.specs.declared.UnpackedHead.{UnpackedHead}
 use Rattle.tape_model.specs.Ticket.{headReply}
-use Rattle.tape_model.specs.Tape.{ticketsIn}
+use Rattle.tape_model.specs.Tape.{plainTickets, ticketsIn}
 use Rattle.tape_model.specs.Listing.{listed}
 use Rattle.calls.specs.Calls.{putInto}
-use Rattle.listing.specs.Contracts.{unpacked}
 use Rattle.listing.proofs.list_opened.Statement.{statement}
 use Rattle.listing.proofs.list_opened.Tie as tie
 
@@ -29,7 +28,7 @@ returns : tie.Need-returns
 unfolding headReply listed
 returns c =
     let s = c .before .before .before .before .before .before .before .before .before in
-    ap (λ (h : UnpackedHead). putInto (listed (headReply h) (ticketsIn (unpacked (s .args .plain .now)))) (s .args .out .now)) (c .before .before .before .before .before .head .given .1) ∙ c .before .before .list-refused .ensures
+    ap (λ (h : UnpackedHead). putInto (listed (headReply h) (ticketsIn (plainTickets (s .args .plain .now)))) (s .args .out .now)) (c .before .before .before .before .before .head .given .1) ∙ c .before .before .list-refused .ensures
 
 same-length-2 : tie.Need-same-length-2
 same-length-2 c = search needs
@@ -38,7 +37,7 @@ returns-2 : tie.Need-returns-2
 unfolding headReply
 returns-2 c =
     let s = c .before .before .before .before .before .before .before .before .before in
-    ap (λ (h : UnpackedHead). putInto (listed (headReply h) (ticketsIn (unpacked (s .args .plain .now)))) (s .args .out .now)) (c .before .before .before .before .before .head2 .given .1) ∙ c .before .before .list-tickets .ensures
+    ap (λ (h : UnpackedHead). putInto (listed (headReply h) (ticketsIn (plainTickets (s .args .plain .now)))) (s .args .out .now)) (c .before .before .before .before .before .head2 .given .1) ∙ c .before .before .list-tickets .ensures
 
 pub list-opened-spec : {M : Type 1} → statement M
 list-opened-spec =

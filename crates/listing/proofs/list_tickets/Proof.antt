@@ -2,9 +2,8 @@
 use native.Mathlib.Omega.{arith}
 use borrow.Author.Needs.{needs}
 use Rattle.calls.specs.Calls.{done}
-use Rattle.tape_model.specs.Tape.{ticketsIn}
+use Rattle.tape_model.specs.Tape.{plainTickets, ticketsIn}
 use Rattle.tape_model.specs.Listing.{listed}
-use Rattle.listing.specs.Contracts.{unpacked}
 use Rattle.listing.proofs.Texts.{listed-whole, listed-short}
 use Rattle.listing.proofs.list_tickets.Statement.{statement}
 use Rattle.listing.proofs.list_tickets.Tie as tie
@@ -13,7 +12,7 @@ listed-length-requires : tie.Need-listed-length-requires
 listed-length-requires c κs = search needs
 
 returns : tie.Need-returns
-returns c = let s = c .before .before .before .before in listed-short (listed (done (s .args .head)) (ticketsIn (unpacked (s .args .plain .now)))) (omega (arith, c .before .listed-length .ensures, c .if1 .taken))
+returns c = let s = c .before .before .before .before in listed-short (listed (done (s .args .head)) (ticketsIn (plainTickets (s .args .plain .now)))) (omega (arith, c .before .listed-length .ensures, c .if1 .taken))
 
 put-listed-requires : tie.Need-put-listed-requires
 put-listed-requires c κs = search needs

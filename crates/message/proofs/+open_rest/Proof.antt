@@ -38,235 +38,6 @@ abbrev open-rest-below : ℕ → In 2 open-rest-kinds.ps
 open-rest-below t =
     and 2 open-rest-kinds.ps (falls 2 open-rest-kinds.ps _<_ μ-open-rest t) open-rest.Pre
 
-open-rest-sub-left : (t : ℕ) → open-rest-lts.Need-sub-left (
-  piece-length-reads.Asked,
-  piece-length-reads.Learnt,
-  decrypt-reads.Asked,
-  decrypt-reads.Learnt,
-  open-rest-below t,
-  open-rest.Post,
-  tag-is-reads.Asked,
-  tag-is-reads.Learnt,
-  hand-over-reads.Asked,
-  hand-over-reads.Learnt,
-) (open-rest-at t) open-rest.Post
-open-rest-sub-left t c = search needs
-
-open-rest-piece-length-requires : (t : ℕ) → open-rest-lts.Need-piece-length-requires (
-  piece-length-reads.Asked,
-  piece-length-reads.Learnt,
-  decrypt-reads.Asked,
-  decrypt-reads.Learnt,
-  open-rest-below t,
-  open-rest.Post,
-  tag-is-reads.Asked,
-  tag-is-reads.Learnt,
-  hand-over-reads.Asked,
-  hand-over-reads.Learnt,
-) (open-rest-at t) open-rest.Post
-open-rest-piece-length-requires t c κs = search needs
-
-open-rest-slice-aggregate-decrypt : (t : ℕ) → open-rest-lts.Need-slice-aggregate-decrypt (
-  piece-length-reads.Asked,
-  piece-length-reads.Learnt,
-  decrypt-reads.Asked,
-  decrypt-reads.Learnt,
-  open-rest-below t,
-  open-rest.Post,
-  tag-is-reads.Asked,
-  tag-is-reads.Learnt,
-  hand-over-reads.Asked,
-  hand-over-reads.Learnt,
-) (open-rest-at t) open-rest.Post
-open-rest-slice-aggregate-decrypt t c = sym (length-take-le (c .before .piece-length .result) (c .before .before .before .before .args .sealed .now) (omega arith))
-
-open-rest-slice-aggregate-decrypt-2 : (t : ℕ) → open-rest-lts.Need-slice-aggregate-decrypt-2 (
-  piece-length-reads.Asked,
-  piece-length-reads.Learnt,
-  decrypt-reads.Asked,
-  decrypt-reads.Learnt,
-  open-rest-below t,
-  open-rest.Post,
-  tag-is-reads.Asked,
-  tag-is-reads.Learnt,
-  hand-over-reads.Asked,
-  hand-over-reads.Learnt,
-) (open-rest-at t) open-rest.Post
-open-rest-slice-aggregate-decrypt-2 t c = search needs
-
-open-rest-decrypt-requires : (t : ℕ) → open-rest-lts.Need-decrypt-requires (
-  piece-length-reads.Asked,
-  piece-length-reads.Learnt,
-  decrypt-reads.Asked,
-  decrypt-reads.Learnt,
-  open-rest-below t,
-  open-rest.Post,
-  tag-is-reads.Asked,
-  tag-is-reads.Learnt,
-  hand-over-reads.Asked,
-  hand-over-reads.Learnt,
-) (open-rest-at t) open-rest.Post
-open-rest-decrypt-requires t c κs = search needs
-
-open-rest-sub-open-rest : (t : ℕ) → open-rest-lts.Need-sub-open-rest (
-  piece-length-reads.Asked,
-  piece-length-reads.Learnt,
-  decrypt-reads.Asked,
-  decrypt-reads.Learnt,
-  open-rest-below t,
-  open-rest.Post,
-  tag-is-reads.Asked,
-  tag-is-reads.Learnt,
-  hand-over-reads.Asked,
-  hand-over-reads.Learnt,
-) (open-rest-at t) open-rest.Post
-open-rest-sub-open-rest t c = search needs
-
-open-rest-part-open-rest-start : (t : ℕ) → open-rest-lts.Need-part-open-rest-start (
-  piece-length-reads.Asked,
-  piece-length-reads.Learnt,
-  decrypt-reads.Asked,
-  decrypt-reads.Learnt,
-  open-rest-below t,
-  open-rest.Post,
-  tag-is-reads.Asked,
-  tag-is-reads.Learnt,
-  hand-over-reads.Asked,
-  hand-over-reads.Learnt,
-) (open-rest-at t) open-rest.Post
-open-rest-part-open-rest-start t c = search needs
-
-open-rest-part-open-rest-end : (t : ℕ) → open-rest-lts.Need-part-open-rest-end (
-  piece-length-reads.Asked,
-  piece-length-reads.Learnt,
-  decrypt-reads.Asked,
-  decrypt-reads.Learnt,
-  open-rest-below t,
-  open-rest.Post,
-  tag-is-reads.Asked,
-  tag-is-reads.Learnt,
-  hand-over-reads.Asked,
-  hand-over-reads.Learnt,
-) (open-rest-at t) open-rest.Post
-open-rest-part-open-rest-end t c = search needs
-
-open-rest-sub-open-rest-2 : (t : ℕ) → open-rest-lts.Need-sub-open-rest-2 (
-  piece-length-reads.Asked,
-  piece-length-reads.Learnt,
-  decrypt-reads.Asked,
-  decrypt-reads.Learnt,
-  open-rest-below t,
-  open-rest.Post,
-  tag-is-reads.Asked,
-  tag-is-reads.Learnt,
-  hand-over-reads.Asked,
-  hand-over-reads.Learnt,
-) (open-rest-at t) open-rest.Post
-open-rest-sub-open-rest-2 t c = search needs
-
-open-rest-part-open-rest-start-2 : (t : ℕ) → open-rest-lts.Need-part-open-rest-start-2 (
-  piece-length-reads.Asked,
-  piece-length-reads.Learnt,
-  decrypt-reads.Asked,
-  decrypt-reads.Learnt,
-  open-rest-below t,
-  open-rest.Post,
-  tag-is-reads.Asked,
-  tag-is-reads.Learnt,
-  hand-over-reads.Asked,
-  hand-over-reads.Learnt,
-) (open-rest-at t) open-rest.Post
-open-rest-part-open-rest-start-2 t c = search needs
-
-open-rest-part-open-rest-end-2 : (t : ℕ) → open-rest-lts.Need-part-open-rest-end-2 (
-  piece-length-reads.Asked,
-  piece-length-reads.Learnt,
-  decrypt-reads.Asked,
-  decrypt-reads.Learnt,
-  open-rest-below t,
-  open-rest.Post,
-  tag-is-reads.Asked,
-  tag-is-reads.Learnt,
-  hand-over-reads.Asked,
-  hand-over-reads.Learnt,
-) (open-rest-at t) open-rest.Post
-open-rest-part-open-rest-end-2 t c = search needs
-
-open-rest-open-rest-requires : (t : ℕ) → open-rest-lts.Need-open-rest-requires (
-  piece-length-reads.Asked,
-  piece-length-reads.Learnt,
-  decrypt-reads.Asked,
-  decrypt-reads.Learnt,
-  open-rest-below t,
-  open-rest.Post,
-  tag-is-reads.Asked,
-  tag-is-reads.Learnt,
-  hand-over-reads.Asked,
-  hand-over-reads.Learnt,
-) (open-rest-at t) open-rest.Post
-open-rest-open-rest-requires t c κs =
-    let sized = c .before .before .before .before .before .before .before in
-    let start = sized .before .before .before in
-    let more = c .before .before .if1 .taken in
-    let whole = sized .piece-length .ensures .2 more in
-    simp (length-take, length-drop) (omega (arith, start .pre .0, whole, more), (omega (arith, start .pre .1 .0, more), omega (arith, start .pre .1 .1)))
-
-open-rest-sub-tag-is : (t : ℕ) → open-rest-lts.Need-sub-tag-is (
-  piece-length-reads.Asked,
-  piece-length-reads.Learnt,
-  decrypt-reads.Asked,
-  decrypt-reads.Learnt,
-  open-rest-below t,
-  open-rest.Post,
-  tag-is-reads.Asked,
-  tag-is-reads.Learnt,
-  hand-over-reads.Asked,
-  hand-over-reads.Learnt,
-) (open-rest-at t) open-rest.Post
-open-rest-sub-tag-is t c = search needs
-
-open-rest-part-tag-is-start : (t : ℕ) → open-rest-lts.Need-part-tag-is-start (
-  piece-length-reads.Asked,
-  piece-length-reads.Learnt,
-  decrypt-reads.Asked,
-  decrypt-reads.Learnt,
-  open-rest-below t,
-  open-rest.Post,
-  tag-is-reads.Asked,
-  tag-is-reads.Learnt,
-  hand-over-reads.Asked,
-  hand-over-reads.Learnt,
-) (open-rest-at t) open-rest.Post
-open-rest-part-tag-is-start t c = search needs
-
-open-rest-part-tag-is-end : (t : ℕ) → open-rest-lts.Need-part-tag-is-end (
-  piece-length-reads.Asked,
-  piece-length-reads.Learnt,
-  decrypt-reads.Asked,
-  decrypt-reads.Learnt,
-  open-rest-below t,
-  open-rest.Post,
-  tag-is-reads.Asked,
-  tag-is-reads.Learnt,
-  hand-over-reads.Asked,
-  hand-over-reads.Learnt,
-) (open-rest-at t) open-rest.Post
-open-rest-part-tag-is-end t c = search needs
-
-open-rest-tag-is-requires : (t : ℕ) → open-rest-lts.Need-tag-is-requires (
-  piece-length-reads.Asked,
-  piece-length-reads.Learnt,
-  decrypt-reads.Asked,
-  decrypt-reads.Learnt,
-  open-rest-below t,
-  open-rest.Post,
-  tag-is-reads.Asked,
-  tag-is-reads.Learnt,
-  hand-over-reads.Asked,
-  hand-over-reads.Learnt,
-) (open-rest-at t) open-rest.Post
-open-rest-tag-is-requires t c κs = search needs
-
 -- Where the two ways meet: the verdict, and what handing the piece over then gives. What stands in the output there is as long as it was.
 record Verdict (S : Bits) (s out text : List ℕ) (mid : List ℕ) (good : Bool) : Type 0 where
   same-room : length mid ≡ length out
@@ -317,62 +88,6 @@ verdict t c =
     })
     (c .if1 .came)
 
-open-rest-slice-aggregate-hand-over : (t : ℕ) → open-rest-lts.Need-slice-aggregate-hand-over (
-  piece-length-reads.Asked,
-  piece-length-reads.Learnt,
-  decrypt-reads.Asked,
-  decrypt-reads.Learnt,
-  open-rest-below t,
-  open-rest.Post,
-  tag-is-reads.Asked,
-  tag-is-reads.Learnt,
-  hand-over-reads.Asked,
-  hand-over-reads.Learnt,
-) (open-rest-at t) open-rest.Post
-open-rest-slice-aggregate-hand-over t c = search needs
-
-open-rest-hand-over-requires : (t : ℕ) → open-rest-lts.Need-hand-over-requires (
-  piece-length-reads.Asked,
-  piece-length-reads.Learnt,
-  decrypt-reads.Asked,
-  decrypt-reads.Learnt,
-  open-rest-below t,
-  open-rest.Post,
-  tag-is-reads.Asked,
-  tag-is-reads.Learnt,
-  hand-over-reads.Asked,
-  hand-over-reads.Learnt,
-) (open-rest-at t) open-rest.Post
-open-rest-hand-over-requires t c κs = let start = c .before .before .before .before .before .before .before .before .before .before in (search needs, omega (arith, start .pre .1, verdict t (c .before .before) .same-room))
-
-open-rest-same-length : (t : ℕ) → open-rest-lts.Need-same-length (
-  piece-length-reads.Asked,
-  piece-length-reads.Learnt,
-  decrypt-reads.Asked,
-  decrypt-reads.Learnt,
-  open-rest-below t,
-  open-rest.Post,
-  tag-is-reads.Asked,
-  tag-is-reads.Learnt,
-  hand-over-reads.Asked,
-  hand-over-reads.Learnt,
-) (open-rest-at t) open-rest.Post
-open-rest-same-length t c = c .before .before .before .hand-over .kept .1 .1 .1 .0 ∙ verdict t (c .before .before .before .before .before .before) .same-room
-
-open-rest-returns : (t : ℕ) → open-rest-lts.Need-returns (
-  piece-length-reads.Asked,
-  piece-length-reads.Learnt,
-  decrypt-reads.Asked,
-  decrypt-reads.Learnt,
-  open-rest-below t,
-  open-rest.Post,
-  tag-is-reads.Asked,
-  tag-is-reads.Learnt,
-  hand-over-reads.Asked,
-  hand-over-reads.Learnt,
-) (open-rest-at t) open-rest.Post
-open-rest-returns t c = let v = verdict t (c .before .before .before .before .before .before) in (v .matches, v .opens _ (c .before .before .before .hand-over .ensures .0))
-
 pub +open-rest-spec : {M : Type 1} → statement M
 +open-rest-spec = close μ-open-rest λ t. open-rest-lts.spec (
   piece-length-reads.Asked,
@@ -388,23 +103,41 @@ pub +open-rest-spec : {M : Type 1} → statement M
 )
     (open-rest-at t)
     open-rest.Post
-    (open-rest-sub-left t)
-    (open-rest-piece-length-requires t)
-    (open-rest-slice-aggregate-decrypt t)
-    (open-rest-slice-aggregate-decrypt-2 t)
-    (open-rest-decrypt-requires t)
-    (open-rest-sub-open-rest t)
-    (open-rest-part-open-rest-start t)
-    (open-rest-part-open-rest-end t)
-    (open-rest-sub-open-rest-2 t)
-    (open-rest-part-open-rest-start-2 t)
-    (open-rest-part-open-rest-end-2 t)
-    (open-rest-open-rest-requires t)
-    (open-rest-sub-tag-is t)
-    (open-rest-part-tag-is-start t)
-    (open-rest-part-tag-is-end t)
-    (open-rest-tag-is-requires t)
-    (open-rest-slice-aggregate-hand-over t)
-    (open-rest-hand-over-requires t)
-    (open-rest-same-length t)
-    (open-rest-returns t)
+    -- the piece is decrypted
+    (λ c. search needs)
+    (λ c κs. search needs)
+    (λ c. sym (length-take-le (c .before .piece-length .result) (c .before .before .before .before .args .sealed .now) (omega arith)))
+    (λ c. search needs)
+    (λ c κs. search needs)
+    -- more is behind it: the call has fewer sealed bytes
+    (λ c. search needs)
+    (λ c. search needs)
+    (λ c. search needs)
+    (λ c. search needs)
+    (λ c. search needs)
+    (λ c. search needs)
+    (λ c κs.
+    let sized = c .before .before .before .before .before .before .before in
+    let start = sized .before .before .before in
+    let more = c .before .before .if1 .taken in
+    let whole = sized .piece-length .ensures .2 more in
+    simp (length-take, length-drop) (omega (arith, start .pre .0, whole, more), (omega (arith, start .pre .1 .0, more), omega (arith, start .pre .1 .1))))
+    -- it is the last, and the tag is behind it
+    (λ c. search needs)
+    (λ c. search needs)
+    (λ c. search needs)
+    (λ c κs. search needs)
+    -- the piece is handed over
+    (λ c. search needs)
+    (λ c κs.
+    let met = c .before .before in
+    let start = met .before .before .before .before .before .before .before .before in
+    (search needs, omega (arith, start .pre .1, verdict t met .same-room)))
+    (λ c.
+    let handed = c .before .before .before in
+    let met = handed .before .before .before in
+    handed .hand-over .kept .1 .1 .1 .0 ∙ verdict t met .same-room)
+    (λ c.
+    let handed = c .before .before .before in
+    let v = verdict t (handed .before .before .before) in
+    (v .matches, v .opens _ (handed .hand-over .ensures .0)))

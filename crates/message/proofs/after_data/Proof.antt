@@ -1,7 +1,7 @@
 -- `after_data` runs start, the data and the data end.
 use mathlib.Core.Path.{ap, _∙_}
 use Rattle.acorn_model.specs.Stretches.{through, dataPiece, dataEnd}
-use Rattle.message.proofs.Sealing.{start-right}
+use Rattle.acorn.proofs.Callers.{start-sized}
 use borrow.Author.Needs.{needs}
 use Rattle.message.proofs.after_data.Statement.{statement}
 use Rattle.message.proofs.after_data.Tie as tie
@@ -21,7 +21,7 @@ returns c =
     let a = start .args in
     c .end-data .ensures
     ∙ ap (through dataEnd) (c .before .absorb-data .ensures
-    ∙ ap (through (dataPiece (a .«data» .now))) (c .before .before .start .ensures ∙ start-right (a .key .now) (a .nonce .now) (start .pre .0) (start .pre .1)))
+    ∙ ap (through (dataPiece (a .«data» .now))) (c .before .before .start .ensures ∙ start-sized (a .key .now) (a .nonce .now) (start .pre .0) (start .pre .1)))
 
 pub after-data-spec : {M : Type 1} → statement M
 after-data-spec =

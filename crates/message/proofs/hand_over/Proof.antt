@@ -9,10 +9,6 @@ use Rattle.calls.specs.Calls.{writtenOver}
 use borrow.Author.Needs.{needs}
 use Rattle.message.proofs.hand_over.Statement.{statement}
 use Rattle.message.proofs.hand_over.Tie as tie
-use Rattle.message.proofs.hand_over.Reads as reads
-use Rattle.message.proofs.hand_over.Lts as lts
-use Rattle.bytes.proofs.copy.Reads as copy-reads
-use Rattle.zeroize.proofs.zeroize.Reads as zeroize-reads
 
 slice-reshare-prefix-copy : tie.Need-slice-reshare-prefix-copy
 slice-reshare-prefix-copy c = search needs

@@ -9,7 +9,8 @@ use Rattle.message.proofs.Opening.{sent-back, let-through, openable, op
 use Rattle.message.proofs.open.Statement.{statement}
 use Rattle.message.proofs.open.Tie as tie
 
--- no number applies before the tag is known
+-- ## Where no number applies before the tag is known
+
 abbrev start : tie.Else1 → tie.Start
 start c = c .before .before .before .before .before .before .before .before
 
@@ -20,6 +21,8 @@ only-tag c =
 
 sizes : (c : tie.Else1) → let a = start c .args in Openable (a .key .now) (a .nonce .now) (a .«data» .now) (a .sealed .now) (a .out .now)
 sizes c = let a = start c .args in openable (a .key .now) (a .nonce .now) (a .«data» .now) (a .sealed .now) (a .out .now) (only-tag c)
+
+-- ## Its parts
 
 open-refusal-requires : tie.Need-open-refusal-requires
 open-refusal-requires c κs = search needs
@@ -48,10 +51,11 @@ same-length-2 c = search needs
 returns-2 : tie.Need-returns-2
 unfolding writtenReply
 returns-2 c =
-    let sized = c .before .before .before .before .before .before in
+    let all = c .before .before .before in
+    let begun = all .before .before in
+    let sized = begun .before in
     let a = start sized .args in
-    opened-by-rest (a .key .now) (a .nonce .now) (a .«data» .now) (a .sealed .now) (a .out .now) (only-tag sized) _ _ _ (c .before .before .before .before .before .after-data .ensures)
-    (c .before .before .before .open-all .ensures .0) (c .before .before .before .open-all .ensures .1) (c .if2 .taken)
+    opened-by-rest (a .key .now) (a .nonce .now) (a .«data» .now) (a .sealed .now) (a .out .now) (only-tag sized) _ _ _ (begun .after-data .ensures) (all .open-all .ensures .0) (all .open-all .ensures .1) (c .if2 .taken)
 
 same-length-3 : tie.Need-same-length-3
 same-length-3 c = search needs
@@ -59,10 +63,11 @@ same-length-3 c = search needs
 returns-3 : tie.Need-returns-3
 unfolding writtenReply
 returns-3 c =
-    let sized = c .before .before .before .before .before .before in
+    let all = c .before .before .before in
+    let begun = all .before .before in
+    let sized = begun .before in
     let a = start sized .args in
-    refused-by-tag (a .key .now) (a .nonce .now) (a .«data» .now) (a .sealed .now) (a .out .now) (only-tag sized) _ _ _ (c .before .before .before .before .before .after-data .ensures)
-    (c .before .before .before .open-all .ensures .0) (c .before .before .before .open-all .ensures .1) (c .if2 .left)
+    refused-by-tag (a .key .now) (a .nonce .now) (a .«data» .now) (a .sealed .now) (a .out .now) (only-tag sized) _ _ _ (begun .after-data .ensures) (all .open-all .ensures .0) (all .open-all .ensures .1) (c .if2 .left)
 
 pub open-spec : {M : Type 1} → statement M
 open-spec =

@@ -1,12 +1,8 @@
 -- `open_refusal` gives the number that sends an opening back, but for 7.
-use mathlib.Core.Bool.{not}
-use lib.Dec.{ltb}
-use lib.ListN.{length}
-use borrow.Author.Tests.{lt-ltb, le-ltb, ltb-false}
+use borrow.Author.Tests.{lt-ltb, le-ltb}
 use borrow.Author.Needs.{needs}
 use Rattle.calls.specs.Calls.{unlessRefused}
 use Rattle.acorn_model.specs.Message.{openRefusal}
-use Rattle.calls.proofs.Choices.{neither}
 use Rattle.message.proofs.open_refusal.Statement.{statement}
 use Rattle.message.proofs.open_refusal.Tie as tie
 
@@ -17,22 +13,56 @@ returns : tie.Need-returns
 unfolding openRefusal unlessRefused
 returns c = rw (← c .before .sizes-right .ensures, c .if1 .taken)
 
-sub-n : tie.Need-sub-n
-sub-n c =
-    let short = ltb (length (c .before .before .before .before .before .before .before .args .sealed .now)) 16 in
-    ltb-false _ _ (neither (not (c .before .sizes-right .result)) short (c .if1 .left) .1)
-
 returns-2 : tie.Need-returns-2
 unfolding openRefusal unlessRefused
-returns-2 c = rw (← c .before .before .sizes-right .ensures, c .before .if1 .left, c .if2 .taken)
+returns-2 c = let sized = c .before in rw (← sized .before .sizes-right .ensures, sized .if1 .left, lt-ltb _ _ (c .if2 .taken))
+
+sub-n : tie.Need-sub-n
+sub-n c = search needs
 
 returns-3 : tie.Need-returns-3
 unfolding openRefusal unlessRefused
-returns-3 c = rw (← c .before .before .before .sizes-right .ensures, c .before .before .if1 .left, c .before .if2 .left, lt-ltb _ _ (c .if3 .taken))
+returns-3 c =
+    let there = c .before in
+    let sized = there .before in
+    rw (← sized .before .sizes-right .ensures, sized .if1 .left, le-ltb _ _ (there .if2 .left), lt-ltb _ _ (c .if3 .taken))
 
 returns-4 : tie.Need-returns-4
 unfolding openRefusal unlessRefused
-returns-4 c = rw (← c .before .before .before .sizes-right .ensures, c .before .before .if1 .left, c .before .if2 .left, le-ltb _ _ (c .if3 .left))
+returns-4 c =
+    let there = c .before .before in
+    let sized = there .before in
+    rw (← sized .before .sizes-right .ensures, sized .if1 .left, le-ltb _ _ (there .if2 .left), le-ltb _ _ (c .before .if3 .left), lt-ltb _ _ (c .if4 .taken))
+
+returns-5 : tie.Need-returns-5
+unfolding openRefusal unlessRefused
+returns-5 c =
+    let within = c .before in
+    let there = within .before .before in
+    let sized = there .before in
+    rw (
+      ← sized .before .sizes-right .ensures,
+      sized .if1 .left,
+      le-ltb _ _ (there .if2 .left),
+      le-ltb _ _ (within .before .if3 .left),
+      le-ltb _ _ (within .if4 .left),
+      lt-ltb _ _ (c .if5 .taken),
+    )
+
+returns-6 : tie.Need-returns-6
+unfolding openRefusal unlessRefused
+returns-6 c =
+    let within = c .before in
+    let there = within .before .before in
+    let sized = there .before in
+    rw (
+      ← sized .before .sizes-right .ensures,
+      sized .if1 .left,
+      le-ltb _ _ (there .if2 .left),
+      le-ltb _ _ (within .before .if3 .left),
+      le-ltb _ _ (within .if4 .left),
+      le-ltb _ _ (c .if5 .left),
+    )
 
 pub open-refusal-spec : {M : Type 1} → statement M
-open-refusal-spec = tie.close (tie.spec sizes-right-requires returns sub-n returns-2 returns-3 returns-4)
+open-refusal-spec = tie.close (tie.spec sizes-right-requires returns returns-2 sub-n returns-3 returns-4 returns-5 returns-6)

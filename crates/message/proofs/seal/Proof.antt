@@ -1,10 +1,27 @@
 -- `seal` is whole sealing, refusals included.
+use Prim.Native.Nat.{_+_, _≤_}
 use native.Mathlib.Omega.{arith}
+use lib.ListN.{length}
 use Rattle.calls.specs.Calls.{writtenReply}
+use Rattle.acorn_model.specs.Laws.{WithinLimits}
+use Rattle.acorn_model.specs.Machine.{tagLength}
 use Rattle.message.proofs.Sealing.{sent-back, let-through, sealed-by-parts}
 use borrow.Author.Needs.{needs}
 use Rattle.message.proofs.seal.Statement.{statement}
 use Rattle.message.proofs.seal.Tie as tie
+
+-- ## The points on the way: no number applies, and the text is ended
+
+abbrev start : tie.Else1 → tie.Start
+start c = c .before .before .before .before .before .before .before .before
+
+limits : (c : tie.Else1) → let a = start c .args in WithinLimits (a .key .now) (a .nonce .now) (a .«data» .now) (a .text .now) × (length (a .text .now) + tagLength ≤ length (a .out .now))
+limits c = let a = start c .args in let-through (a .key .now) (a .nonce .now) (a .«data» .now) (a .text .now) (a .out .now) _ (c .before .seal-refusal .ensures) (c .if1 .left)
+
+abbrev let-in : tie.After-end-text → tie.Else1
+let-in c = c .before .before .before .before .before .before
+
+-- ## Its parts
 
 seal-refusal-requires : tie.Need-seal-refusal-requires
 seal-refusal-requires c κs = search needs
@@ -19,10 +36,7 @@ returns c =
     sent-back (a .key .now) (a .nonce .now) (a .«data» .now) (a .text .now) (a .out .now) _ (c .before .seal-refusal .ensures) (c .if1 .taken)
 
 after-data-requires : tie.Need-after-data-requires
-after-data-requires c κs =
-    let a = c .before .before .before .before .before .before .before .before .args in
-    let w = let-through (a .key .now) (a .nonce .now) (a .«data» .now) (a .text .now) (a .out .now) _ (c .before .seal-refusal .ensures) (c .if1 .left) .0 in
-    (w .key-size, w .nonce-size)
+after-data-requires c κs = let w = limits c .0 in (w .key-size, w .nonce-size)
 
 seal-text-requires : tie.Need-seal-text-requires
 seal-text-requires c κs = search needs
@@ -31,16 +45,10 @@ end-text-requires : tie.Need-end-text-requires
 end-text-requires c κs = search needs
 
 sub-write-tag : tie.Need-sub-write-tag
-sub-write-tag c =
-    let a = c .before .before .before .before .before .before .before .before .before .before .before .before .before .before .args in
-    let room = let-through (a .key .now) (a .nonce .now) (a .«data» .now) (a .text .now) (a .out .now) _ (c .before .before .before .before .before .before .before .seal-refusal .ensures) (c .before .before .before .before .before .before .if1 .left) .1 in
-    search needs
+sub-write-tag c = let room = limits (let-in c) .1 in search needs
 
 part-write-tag-start : tie.Need-part-write-tag-start
-part-write-tag-start c =
-    let a = c .before .before .before .before .before .before .before .before .before .before .before .before .before .before .args in
-    let room = let-through (a .key .now) (a .nonce .now) (a .«data» .now) (a .text .now) (a .out .now) _ (c .before .before .before .before .before .before .before .seal-refusal .ensures) (c .before .before .before .before .before .before .if1 .left) .1 in
-    search needs
+part-write-tag-start c = let room = limits (let-in c) .1 in search needs
 
 part-write-tag-end : tie.Need-part-write-tag-end
 part-write-tag-end c = search needs
@@ -49,10 +57,7 @@ write-tag-requires : tie.Need-write-tag-requires
 write-tag-requires c κs = search needs
 
 add-written : tie.Need-add-written
-add-written c =
-    let a = c .before .before .before .before .before .before .before .before .before .before .before .before .before .before .before .before .before .before .args in
-    let w = let-through (a .key .now) (a .nonce .now) (a .«data» .now) (a .text .now) (a .out .now) _ (c .before .before .before .before .before .before .before .before .before .before .before .seal-refusal .ensures) (c .before .before .before .before .before .before .before .before .before .before .if1 .left) .0 in
-    omega (arith, w .text-limit)
+add-written c = let ended = c .before .before .before .before in omega (arith, limits (let-in ended) .0 .text-limit)
 
 same-length-2 : tie.Need-same-length-2
 same-length-2 c = search needs
@@ -60,14 +65,12 @@ same-length-2 c = search needs
 returns-2 : tie.Need-returns-2
 unfolding writtenReply
 returns-2 c =
-    let a = c .before .before .before .before .before .before .before .before .before .before .before .before .before .before .before .before .before .before .args in
+    let ended = c .before .before .before .before in
+    let run = ended .before .before .before in
+    let known = let-in ended in
+    let a = start known .args in
     sealed-by-parts (a .key .now) (a .nonce .now) (a .«data» .now) (a .text .now) (a .out .now) _ _ _ _ _ _
-    (c .before .before .before .before .before .before .before .before .before .before .before .seal-refusal .ensures)
-    (c .before .before .before .before .before .before .before .before .before .before .if1 .left)
-    (c .before .before .before .before .before .before .before .before .before .after-data .ensures)
-    (c .before .before .before .before .before .before .before .seal-text .ensures)
-    (c .before .before .before .before .end-text .ensures)
-    (c .before .before .write-tag .ensures)
+    (known .before .seal-refusal .ensures) (known .if1 .left) (run .before .before .after-data .ensures) (run .seal-text .ensures) (ended .end-text .ensures) (c .before .before .write-tag .ensures)
 
 pub seal-spec : {M : Type 1} → statement M
 seal-spec =

@@ -5,11 +5,6 @@ use Rattle.calls.specs.Calls.{sameBytes}
 use borrow.Author.Needs.{needs}
 use Rattle.message.proofs.tag_is.Statement.{statement}
 use Rattle.message.proofs.tag_is.Tie as tie
-use Rattle.message.proofs.tag_is.Reads as reads
-use Rattle.message.proofs.tag_is.Lts as lts
-use Rattle.acorn.proofs.end_text.Reads as end-text-reads
-use Rattle.acorn.proofs.tag.Reads as tag-reads
-use Rattle.compare.proofs.same_bytes.Reads as same-bytes-reads
 
 end-text-requires : tie.Need-end-text-requires
 end-text-requires c κs = search needs

@@ -1,12 +1,12 @@
--- `packed_head` is the packed head: the number of its values in 32 and 40 bits.
-use Prim.Native.Nat.{_+_, _*_, _^_}
+-- `packed_head` is the packed head: the number of its values in 32 and 40 bits, where what does not fit in 40 runs over.
+use Prim.Native.Nat.{ℕ, _+_, _*_, _/_, _%_, _^_}
 use mathlib.Core.Path.{_≡_, sym, ap, _∙_}
+use mathlib.Core.List.{List, _++_}
 use native.Mathlib.Omega.{arith}
 use borrow.Author.Needs.{needs}
 use Rattle.tape_model.specs.Format.{join, cut, byteWidths, widths}
 use Rattle.tape_model.specs.Ticket.{headFormat, headValues, packHead}
-use Rattle.tape_model.proofs.Widths.{cut-append}
-use Rattle.tape_model.proofs.Tickets.{head-rule}
+use Rattle.tape_model.proofs.Widths.{cut-above, cut-append}
 use Rattle.ticket.proofs.packed_head.Statement.{statement}
 use Rattle.ticket.proofs.packed_head.Tie as tie
 
@@ -22,6 +22,15 @@ cast-l-2 c = search needs
 add-l : tie.Need-add-l
 add-l c = search needs
 
+cast-d : tie.Need-cast-d
+cast-d c = search needs
+
+add-d : tie.Need-add-d
+add-d c = search needs
+
+cast-t7 : tie.Need-cast-t7
+cast-t7 c = search needs
+
 cast-t9 : tie.Need-cast-t9
 cast-t9 c = search needs
 
@@ -33,9 +42,6 @@ cast-t15 c = search needs
 
 cast-t18 : tie.Need-cast-t18
 cast-t18 c = search needs
-
-cast-t19 : tie.Need-cast-t19
-cast-t19 c = search needs
 
 cast-t21 : tie.Need-cast-t21
 cast-t21 c = search needs
@@ -52,11 +58,14 @@ cast-t30 c = search needs
 returns : tie.Need-returns
 unfolding packHead
 returns c =
-    let h = c .before .before .args .h in
-    let r = head-rule h (c .before .before .pre) in
+    let h = c .before .before .before .args .h in
     let l = h .shift * 2 ^ 20 + h .sheet in
-    let e : join (widths headFormat) (headValues h) ≡ h .device * 2 ^ 40 + l = omega arith in
-    sym (ap (cut (byteWidths 9)) e ∙ cut-append (byteWidths 4) (byteWidths 5) (h .device) l (omega arith))
+    let rest = l % 2 ^ 40 in
+    let top = h .device + l / 2 ^ 40 in
+    let e : join (widths headFormat) (headValues h) ≡ top * 2 ^ 40 + rest = omega arith in
+    let whole : l / 2 ^ 40 * 2 ^ 40 + rest ≡ l = omega arith in
+    sym (ap (cut (byteWidths 9)) e ∙ cut-append (byteWidths 4) (byteWidths 5) top rest (omega arith)
+    ∙ ap (λ (bytes : List ℕ). cut (byteWidths 4) top ++ bytes) (sym (cut-above (byteWidths 5) (l / 2 ^ 40) rest) ∙ ap (cut (byteWidths 5)) whole))
 
 pub packed-head-spec : {M : Type 1} → statement M
 packed-head-spec =
@@ -66,11 +75,13 @@ packed-head-spec =
     mul-l
     cast-l-2
     add-l
+    cast-d
+    add-d
+    cast-t7
     cast-t9
     cast-t12
     cast-t15
     cast-t18
-    cast-t19
     cast-t21
     cast-t24
     cast-t27

@@ -4,7 +4,7 @@ use mathlib.Core.Path.{_≡_, sym, ap, _∙_}
 use native.Mathlib.Omega.{arith}
 use borrow.Author.Needs.{needs}
 use Rattle.tape_model.specs.Ticket.{ticketReply}
-use Rattle.tape_model.specs.Tape.{unpackTickets, totalsOf, plainTotals, openedReply}
+use Rattle.tape_model.specs.Tape.{unpackTickets, plainTickets, totalsOf, plainTotals, totalsReply}
 use Rattle.ticket.proofs.Summing.{totalsAfter, left, all-left, none-left, one-done, one-refused, few-tickets, length-allowed}
 use Rattle.ticket.proofs.totals.Statement.{statement}
 use Rattle.ticket.proofs.totals.Tie as tie
@@ -21,7 +21,7 @@ is-tickets-length-requires : tie.Need-is-tickets-length-requires Inv-loop μ-loo
 is-tickets-length-requires c κs = search needs
 
 returns : tie.Need-returns Inv-loop μ-loop
-unfolding openedReply plainTotals
+unfolding totalsReply plainTotals plainTickets totalsOf
 returns c = rw (sym (c .before .is-tickets-length .ensures), c .if1 .taken)
 
 loop-holds : tie.Need-loop-holds Inv-loop μ-loop
@@ -54,7 +54,7 @@ enum-told : tie.Need-enum-told Inv-loop μ-loop
 enum-told c = search needs
 
 returns-2 : tie.Need-returns-2 Inv-loop μ-loop
-unfolding openedReply ticketReply
+unfolding totalsReply ticketReply
 returns-2 c =
     let e = c .before .before .before .before .before .before in
     let s = e .before .before .before .args .plain .now in
@@ -93,7 +93,7 @@ loop-again c =
     )
 
 returns-3 : tie.Need-returns-3 Inv-loop μ-loop
-unfolding openedReply
+unfolding totalsReply
 returns-3 c =
     let e = c .before .before in
     let s = e .before .before .before .args .plain .now in

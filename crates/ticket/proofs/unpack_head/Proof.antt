@@ -3,13 +3,14 @@ use mathlib.Core.Bool.{true, false}
 use native.Mathlib.Omega.{arith}
 use borrow.Author.Tests.{ne-eqb}
 use borrow.Author.Needs.{needs}
+use Rattle.calls.specs.Calls.{unlessRefused}
 use Rattle.tape_model.specs.Ticket.{unpackHead, headReply}
 use Rattle.ticket.proofs.Reading.{head-answered}
 use Rattle.ticket.proofs.unpack_head.Statement.{statement}
 use Rattle.ticket.proofs.unpack_head.Tie as tie
 
 returns : tie.Need-returns
-unfolding unpackHead headReply
+unfolding unpackHead unlessRefused headReply
 returns c = rw (ne-eqb _ _ (c .if1 .taken))
 
 sub-read : tie.Need-sub-read

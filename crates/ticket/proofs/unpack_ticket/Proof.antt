@@ -3,13 +3,14 @@ use mathlib.Core.Bool.{true, false}
 use native.Mathlib.Omega.{arith}
 use borrow.Author.Tests.{ne-eqb}
 use borrow.Author.Needs.{needs}
+use Rattle.calls.specs.Calls.{unlessRefused}
 use Rattle.tape_model.specs.Ticket.{unpackTicket, ticketReply}
 use Rattle.ticket.proofs.Reading.{ticket-answered}
 use Rattle.ticket.proofs.unpack_ticket.Statement.{statement}
 use Rattle.ticket.proofs.unpack_ticket.Tie as tie
 
 returns : tie.Need-returns
-unfolding unpackTicket ticketReply
+unfolding unpackTicket unlessRefused ticketReply
 returns c = rw (ne-eqb _ _ (c .if1 .taken))
 
 sub-read : tie.Need-sub-read

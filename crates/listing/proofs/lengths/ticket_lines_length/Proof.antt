@@ -5,34 +5,40 @@ use native.Mathlib.Omega.{arith}
 use lib.ListN.{length, take}
 use borrow.Author.Needs.{needs}
 use Rattle.calls.specs.Calls.{done}
-use Rattle.tape_model.specs.Tape.{ticketsIn}
+use Rattle.tape_model.specs.Tape.{plainTickets, ticketsIn}
 use Rattle.tape_model.specs.Reader.{ReadOutcome, ticket, readNext, nextReply}
 use Rattle.tape_model.specs.Listing.{ticketLines}
 use Rattle.reader.specs.Contracts.{readerAt, readOutcome}
-use Rattle.listing.specs.Contracts.{unpacked}
 use Rattle.listing.proofs.TicketLines.{few, not-else, all-lines, length-more}
 use Rattle.listing.proofs.lengths.ticket_lines_length.Statement.{statement}
 use Rattle.listing.proofs.lengths.ticket_lines_length.Tie as tie
 
 abbrev Inv-loop : tie.InvT-loop
-Inv-loop plain tickets i₀ sum₀ i sum = (i ≤ tickets) × (sum ≡ length (ticketLines 1 (take i (ticketsIn (unpacked plain))))) × (sum ≤ 168 * i)
+Inv-loop plain tickets i₀ sum₀ i sum = (i ≤ tickets) × (sum ≡ length (ticketLines 1 (take i (ticketsIn (plainTickets plain))))) × (sum ≤ 168 * i)
 
 abbrev μ-loop : tie.MeasureT-loop
 μ-loop plain tickets i₀ sum₀ i sum = tickets - i
+
+-- from a turn's beginning: the start; from where the ticket is known: the turn's beginning
+abbrev start : tie.At-loop Inv-loop μ-loop → tie.Start Inv-loop μ-loop
+start l = l .before .before
+
+abbrev turn : tie.After-known-told Inv-loop μ-loop → tie.At-loop Inv-loop μ-loop
+turn k = k .before .before .before .before .before
 
 -- a reading that hands out no ticket is out of reach
 out-of-reach : tie.At-match-keys2 Inv-loop μ-loop → ⊥
 unfolding readOutcome
 out-of-reach c =
-    let s = c .before .before .before .before .before in
-    let l = c .before .before .before .loop in
-    not-else (s .args .plain .now) (s .pre .0) (s .pre .1) (l .i) (omega arith) _ (ap (λ (o : ReadOutcome). o .answer) (c .before .read-at .ensures)) (c .match .keys2)
+    let l = c .before .before .before in
+    let s = start l in
+    not-else (s .args .plain .now) (s .pre) (l .loop .i) (omega arith) _ (ap (λ (o : ReadOutcome). o .answer) (c .before .read-at .ensures)) (c .match .keys2)
 
 -- the ticket that was handed out
-was-read : (c : tie.After-known-told Inv-loop μ-loop)
-    → done (ticket (c .before .answer .given .0 .0)) ≡ readNext (readerAt (c .before .before .before .before .before .before .before .args .plain .now) (c .before .before .before .before .before .loop .i)) .answer
+was-read : (k : tie.After-known-told Inv-loop μ-loop) → let l = turn k in
+    done (ticket (k .before .answer .given .0 .0)) ≡ readNext (readerAt (start l .args .plain .now) (l .loop .i)) .answer
 unfolding readOutcome nextReply
-was-read c = ap nextReply (sym (c .before .answer .given .1)) ∙ ap (λ (o : ReadOutcome). o .answer) (c .before .before .before .read-at .ensures)
+was-read k = ap nextReply (sym (k .before .answer .given .1)) ∙ ap (λ (o : ReadOutcome). o .answer) (k .before .before .before .read-at .ensures)
 
 loop-holds : tie.Need-loop-holds Inv-loop μ-loop
 unfolding ticketLines
@@ -55,8 +61,8 @@ ticket-line-length-requires c κs = search needs
 
 add-sum : tie.Need-add-sum Inv-loop μ-loop
 add-sum c =
-    let s = c .before .before .before .before .before .before .before .before in
-    let limit = few (s .args .plain .now) (s .pre .0) (s .pre .1) in
+    let s = start (turn (c .before)) in
+    let limit = few (s .args .plain .now) (s .pre) in
     search needs
 
 add-i : tie.Need-add-i Inv-loop μ-loop
@@ -67,17 +73,17 @@ loop-less c = search needs
 
 loop-again : tie.Need-loop-again Inv-loop μ-loop
 loop-again c =
-    let told = c .before in
-    let l = told .before .before .before .before .before .loop in
-    let s = told .before .before .before .before .before .before .before in
-    let more = length-more (s .args .plain .now) (s .pre .0) (s .pre .1) (l .i) (omega arith) _ (was-read told) in
+    let k = c .before in
+    let l = turn k in
+    let s = start l in
+    let more = length-more (s .args .plain .now) (s .pre) (l .loop .i) (omega arith) _ (was-read k) in
     omega (arith, more)
 
 returns-2 : tie.Need-returns-2 Inv-loop μ-loop
 returns-2 c =
     let s = c .before .before .before in
-    let all = ap length (all-lines (s .args .plain .now) (s .pre .0) (s .pre .1) (c .before .loop .i) (omega arith)) in
-    omega (arith, all, few (s .args .plain .now) (s .pre .0) (s .pre .1))
+    let all = ap length (all-lines (s .args .plain .now) (s .pre) (c .before .loop .i) (omega arith)) in
+    omega (arith, all, few (s .args .plain .now) (s .pre))
 
 pub ticket-lines-length-spec : {M : Type 1} → statement M
 ticket-lines-length-spec =

@@ -1,6 +1,7 @@
 -- `put_ticket_lines`: the lines of i tickets are written before each turn of the loop.
 use mathlib.Core.Path.{_≡_, sym, ap, _∙_}
-use Prim.Native.Nat.{_-_, _≤_}
+use mathlib.Core.List.{List}
+use Prim.Native.Nat.{ℕ, _-_, _≤_}
 use native.Mathlib.Omega.{arith}
 use lib.ListN.{take}
 use borrow.Author.Needs.{needs}
@@ -9,31 +10,48 @@ use Rattle.tape_model.specs.Reader.{ReadOutcome, ticket, readNext, nextReply}
 use Rattle.reader.specs.Contracts.{readerAt, readOutcome}
 use Rattle.listing.proofs.Texts.{wrote-nothing, wrote-length, wrote-as}
 use Rattle.listing.proofs.TicketLines.{not-else, all-lines, ticket-start, ticket-room, ticket-wrote, ticket-within}
-use Rattle.tape_model.specs.Tape.{ticketsIn}
+use Rattle.tape_model.specs.Tape.{plainTickets, ticketsIn}
 use Rattle.tape_model.specs.Listing.{ticketLines}
-use Rattle.listing.specs.Contracts.{Wrote, unpacked}
+use Rattle.listing.specs.Contracts.{Wrote}
 use Rattle.listing.proofs.lines.put_ticket_lines.Statement.{statement}
 use Rattle.listing.proofs.lines.put_ticket_lines.Tie as tie
 
 abbrev Inv-loop : tie.InvT-loop
-Inv-loop plain out₀ tickets i₀ at₀ out i at = (i ≤ tickets) × Wrote (ticketLines 1 (take i (ticketsIn (unpacked plain)))) out₀ at out
+Inv-loop plain out₀ tickets i₀ at₀ out i at = (i ≤ tickets) × Wrote (ticketLines 1 (take i (ticketsIn (plainTickets plain)))) out₀ at out
 
 abbrev μ-loop : tie.MeasureT-loop
 μ-loop plain out₀ tickets i₀ at₀ out i at = tickets - i
+
+-- from a turn's beginning: the start; from where the ticket is known: the turn's beginning; from behind the call: where the ticket is known
+abbrev start : tie.At-loop Inv-loop μ-loop → tie.Start Inv-loop μ-loop
+start l = l .before .before .before
+
+abbrev turn : tie.After-known-told Inv-loop μ-loop → tie.At-loop Inv-loop μ-loop
+turn k = k .before .before .before .before .before
+
+abbrev known : tie.After-put-ticket-line Inv-loop μ-loop → tie.After-known-told Inv-loop μ-loop
+known p = p .before .before
+
+module _ (l : tie.At-loop Inv-loop μ-loop) where
+  abbrev plain : List ℕ
+  plain = start l .args .plain .now
+
+  abbrev out : List ℕ
+  out = start l .args .out .now
 
 -- a reading that hands out no ticket is out of reach
 out-of-reach : tie.At-match-keys2 Inv-loop μ-loop → ⊥
 unfolding readOutcome
 out-of-reach c =
-    let s = c .before .before .before .before .before .before in
-    let l = c .before .before .before .loop in
-    not-else (s .args .plain .now) (s .pre .0) (s .pre .1) (l .i) (omega arith) _ (ap (λ (o : ReadOutcome). o .answer) (c .before .read-at .ensures)) (c .match .keys2)
+    let l = c .before .before .before in
+    let s = start l in
+    not-else (plain l) (s .pre .0) (l .loop .i) (omega arith) _ (ap (λ (o : ReadOutcome). o .answer) (c .before .read-at .ensures)) (c .match .keys2)
 
 -- the ticket that was handed out
-was-read : (c : tie.After-known-told Inv-loop μ-loop)
-    → done (ticket (c .before .answer .given .0 .0)) ≡ readNext (readerAt (c .before .before .before .before .before .before .before .before .args .plain .now) (c .before .before .before .before .before .loop .i)) .answer
+was-read : (k : tie.After-known-told Inv-loop μ-loop) → let l = turn k in
+    done (ticket (k .before .answer .given .0 .0)) ≡ readNext (readerAt (plain l) (l .loop .i)) .answer
 unfolding readOutcome nextReply
-was-read c = ap nextReply (sym (c .before .answer .given .1)) ∙ ap (λ (o : ReadOutcome). o .answer) (c .before .before .before .read-at .ensures)
+was-read k = ap nextReply (sym (k .before .answer .given .1)) ∙ ap (λ (o : ReadOutcome). o .answer) (k .before .before .before .read-at .ensures)
 
 loop-holds : tie.Need-loop-holds Inv-loop μ-loop
 unfolding ticketLines
@@ -56,9 +74,9 @@ add-put-ticket-line c = search needs
 
 sub-put-ticket-line : tie.Need-sub-put-ticket-line Inv-loop μ-loop
 sub-put-ticket-line c =
-    let l = c .before .before .before .before .before .loop in
-    let s = c .before .before .before .before .before .before .before .before in
-    ticket-start (s .args .plain .now) (s .pre .0) (s .pre .1) (l .i) (omega arith) _ (was-read c) (s .args .out .now) (s .pre .2) (l .out) (l .at) (l .inv .1)
+    let l = turn c in
+    let s = start l in
+    ticket-start (plain l) (s .pre .0) (l .loop .i) (omega arith) _ (was-read c) (out l) (s .pre .1) (l .loop .out) (l .loop .at) (l .loop .inv .1)
 
 part-put-ticket-line-start : tie.Need-part-put-ticket-line-start Inv-loop μ-loop
 part-put-ticket-line-start c = sub-put-ticket-line c
@@ -68,16 +86,19 @@ part-put-ticket-line-end c = search needs
 
 put-ticket-line-requires : tie.Need-put-ticket-line-requires Inv-loop μ-loop
 put-ticket-line-requires c κs =
-    let l = c .before .before .before .before .before .before .loop in
-    let s = c .before .before .before .before .before .before .before .before .before in
-    ticket-room (s .args .plain .now) (s .pre .0) (s .pre .1) (l .i) (omega arith) _ (was-read (c .before)) (s .args .out .now) (s .pre .2) (l .out) (l .at) (l .inv .1)
+    let k = c .before in
+    let l = turn k in
+    let s = start l in
+    ticket-room (plain l) (s .pre .0) (l .loop .i) (omega arith) _ (was-read k) (out l) (s .pre .1) (l .loop .out) (l .loop .at) (l .loop .inv .1)
 
 add-at : tie.Need-add-at Inv-loop μ-loop
 add-at c =
-    let told = c .before .before .before .before in
-    let l = told .before .before .before .before .before .loop in
-    let s = told .before .before .before .before .before .before .before .before in
-    let within = ticket-within (s .args .plain .now) (s .pre .0) (s .pre .1) (l .i) (omega arith) _ (was-read told) (s .args .out .now) (s .pre .2) (l .out) (l .at) (l .inv .1) _ _ (c .before .before .put-ticket-line .ensures) in
+    let p = c .before .before in
+    let k = known p in
+    let l = turn k in
+    let s = start l in
+    let within = ticket-within (plain l) (s .pre .0) (l .loop .i) (omega arith) _ (was-read k) (out l) (s .pre .1) (l .loop .out) (l .loop .at) (l .loop .inv .1)
+    _ _ (p .put-ticket-line .ensures) in
     search needs
 
 add-i : tie.Need-add-i Inv-loop μ-loop
@@ -88,19 +109,22 @@ loop-less c = search needs
 
 loop-again : tie.Need-loop-again Inv-loop μ-loop
 loop-again c =
-    let told = c .before .before .before .before in
-    let l = told .before .before .before .before .before .loop in
-    let s = told .before .before .before .before .before .before .before .before in
-    (omega arith, ticket-wrote (s .args .plain .now) (s .pre .0) (s .pre .1) (l .i) (omega arith) _ (was-read told) (s .args .out .now) (s .pre .2) (l .out) (l .at) (l .inv .1) _ _ (c .before .before .put-ticket-line .ensures))
+    let p = c .before .before in
+    let k = known p in
+    let l = turn k in
+    let s = start l in
+    let wrote = ticket-wrote (plain l) (s .pre .0) (l .loop .i) (omega arith) _ (was-read k) (out l) (s .pre .1) (l .loop .out) (l .loop .at) (l .loop .inv .1)
+    _ _ (p .put-ticket-line .ensures) in
+    (omega arith, wrote)
 
 returns-2 : tie.Need-returns-2 Inv-loop μ-loop
 returns-2 c =
     let s = c .before .before .before .before in
     let l = c .before .loop in
-    wrote-as (all-lines (s .args .plain .now) (s .pre .0) (s .pre .1) (l .i) (omega arith)) (l .inv .1)
+    wrote-as (all-lines (s .args .plain .now) (s .pre .0) (l .i) (omega arith)) (l .inv .1)
 
 same-length-2 : tie.Need-same-length-2 Inv-loop μ-loop
-same-length-2 c = wrote-length (c .before .before .before .before .pre .2) (returns-2 c)
+same-length-2 c = wrote-length (c .before .before .before .before .pre .1) (returns-2 c)
 
 pub put-ticket-lines-spec : {M : Type 1} → statement M
 put-ticket-lines-spec =

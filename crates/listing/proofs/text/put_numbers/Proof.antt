@@ -1,6 +1,7 @@
 -- `put_numbers`: i numbers are written before each turn of the loop.
-use Prim.Native.Nat.{_-_, _≤_}
 use mathlib.Core.Path.{ap}
+use mathlib.Core.List.{List}
+use Prim.Native.Nat.{ℕ, _-_, _≤_}
 use native.Mathlib.Omega.{arith}
 use lib.ListN.{length, take}
 use lib.Seq.{take-all}
@@ -17,6 +18,20 @@ Inv-loop ns out₀ i₀ at₀ out i at = (i ≤ length ns) × Wrote (numbers (ta
 abbrev μ-loop : tie.MeasureT-loop
 μ-loop ns out₀ i₀ at₀ out i at = length ns - i
 
+-- from a turn's beginning: the start; from behind the call: the turn's beginning
+abbrev start : tie.At-loop Inv-loop μ-loop → tie.Start Inv-loop μ-loop
+start l = l .before .before .before
+
+abbrev turn : tie.After-put-number Inv-loop μ-loop → tie.At-loop Inv-loop μ-loop
+turn k = k .before .before .before .before
+
+module _ (l : tie.At-loop Inv-loop μ-loop) where
+  abbrev ns : List ℕ
+  ns = start l .args .ns .now
+
+  abbrev out : List ℕ
+  out = start l .args .out .now
+
 loop-holds : tie.Need-loop-holds Inv-loop μ-loop
 unfolding numbers
 loop-holds c = (omega arith, wrote-nothing (c .before .before .args .out .now))
@@ -29,9 +44,8 @@ shared-slice-read-put-number c = search needs
 
 sub-put-number : tie.Need-sub-put-number Inv-loop μ-loop
 sub-put-number c =
-    let s = c .before .before .before .before .before in
-    let l = c .before .before .loop in
-    number-start (s .args .ns .now) (s .args .out .now) (l .out) (l .i) (l .at) (omega arith) (s .pre) (l .inv .1)
+    let l = c .before .before in
+    number-start (ns l) (out l) (l .loop .out) (l .loop .i) (l .loop .at) (omega arith) (start l .pre) (l .loop .inv .1)
 
 part-put-number-start : tie.Need-part-put-number-start Inv-loop μ-loop
 part-put-number-start c = sub-put-number c
@@ -41,15 +55,14 @@ part-put-number-end c = search needs
 
 put-number-requires : tie.Need-put-number-requires Inv-loop μ-loop
 put-number-requires c κs =
-    let s = c .before .before .before .before .before .before in
-    let l = c .before .before .before .loop in
-    number-room (s .args .ns .now) (s .args .out .now) (l .out) (l .i) (l .at) (omega arith) (s .pre) (l .inv .1)
+    let l = c .before .before .before in
+    number-room (ns l) (out l) (l .loop .out) (l .loop .i) (l .loop .at) (omega arith) (start l .pre) (l .loop .inv .1)
 
 add-at : tie.Need-add-at Inv-loop μ-loop
 add-at c =
-    let s = c .before .before .before .before .before .before .before .before .before in
-    let l = c .before .before .before .before .before .before .loop in
-    let within = number-within (s .args .ns .now) (s .args .out .now) (l .out) (l .i) (l .at) (omega arith) (s .pre) (l .inv .1) _ _ (c .before .before .put-number .ensures) in
+    let k = c .before .before in
+    let l = turn k in
+    let within = number-within (ns l) (out l) (l .loop .out) (l .loop .i) (l .loop .at) (omega arith) (start l .pre) (l .loop .inv .1) _ _ (k .put-number .ensures) in
     search needs
 
 add-i : tie.Need-add-i Inv-loop μ-loop
@@ -60,9 +73,9 @@ loop-less c = search needs
 
 loop-again : tie.Need-loop-again Inv-loop μ-loop
 loop-again c =
-    let s = c .before .before .before .before .before .before .before .before .before in
-    let l = c .before .before .before .before .before .before .loop in
-    (omega arith, number-wrote (s .args .ns .now) (s .args .out .now) (l .out) (l .i) (l .at) (omega arith) (s .pre) (l .inv .1) _ _ (c .before .before .put-number .ensures))
+    let k = c .before .before in
+    let l = turn k in
+    (omega arith, number-wrote (ns l) (out l) (l .loop .out) (l .loop .i) (l .loop .at) (omega arith) (start l .pre) (l .loop .inv .1) _ _ (k .put-number .ensures))
 
 returns : tie.Need-returns Inv-loop μ-loop
 returns c =
@@ -71,7 +84,7 @@ returns c =
     wrote-as (ap numbers (take-all (l .i) (s .args .ns .now) (omega arith))) (l .inv .1)
 
 same-length : tie.Need-same-length Inv-loop μ-loop
-same-length c = let s = c .before .before .before .before in wrote-length (s .pre) (returns c)
+same-length c = wrote-length (c .before .before .before .before .pre) (returns c)
 
 pub put-numbers-spec : {M : Type 1} → statement M
 put-numbers-spec =

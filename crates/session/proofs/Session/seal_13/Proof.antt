@@ -1,31 +1,34 @@
 -- `Session::seal_13` meets its contract.
-use mathlib.Core.Path.{refl, sym, ap₂, _∙_}
-use mathlib.Core.Bool.{true, false, _&&_, _||_}
+use mathlib.Core.Path.{_≡_, refl, sym, ap₂, _∙_}
+use mathlib.Core.Bool.{false, _&&_, _||_}
 use Prim.Native.Nat.{_+_}
-use native.Mathlib.Omega.{arith}
 use borrow.Author.Needs.{needs}
-use borrow.Author.Tests.{ltb-false}
-use lib.Dec.{ltb}
+use borrow.Author.Tests.{ltb-false, not-true, not-false}
 use lib.ListN.{length}
-use Rattle.calls.specs.Calls.{accepted}
 use Rattle.acorn_model.specs.Machine.{sealText, outputOf, isData, isText, phaseAllows, sizesRight, byteLimit, overLimit, outputShort, dataEnded, textTaken, work}
+use Rattle.acorn_model.proofs.Refusals.{Passed}
 use Rattle.acorn_model.proofs.Outputs.{textOut-length}
-use Rattle.session.specs.Contracts.{machineOf, refusalBy}
+use Rattle.session.specs.Contracts.{machineOf}
 use Rattle.session.proofs.NextSession.{text-state, sealed-output, sealing-only}
-use Rattle.session.proofs.Replies.{Numbered, by-tests, passes, refuses, writes}
+use Rattle.session.proofs.Replies.{refused-1, refused-5, refused-6, writes}
 use Rattle.session.proofs.Session.seal_13.Statement.{statement}
 use Rattle.session.proofs.Session.seal_13.Tie as tie
 
-number-is : (c : tie.After-over-limit) → let a = c .before .before .before .before .before .args in let allowed = c .before .before .is-sealing .result && c .before .takes-text .result in
-    Numbered (a .self) (sealText (a .piece .now) (a .out .now)) (refusalBy allowed true (c .over-limit .result) (ltb (length (a .out .now)) (length (a .piece .now))))
-unfolding machineOf phaseAllows sizesRight overLimit outputShort
-number-is c =
-    let allowed = ap₂ _&&_ (c .before .before .is-sealing .ensures) (c .before .takes-text .ensures) in
-    by-tests _ true _ _ refl (sym allowed) refl (sym (c .over-limit .ensures)) refl
+allowed-is : (c : tie.After-takes-text) → let a = c .before .before .before .before .args in
+    phaseAllows (machineOf (a .self) .kind) (machineOf (a .self) .phase) (sealText (a .piece .now) (a .out .now)) ≡ (c .before .is-sealing .result && c .takes-text .result)
+unfolding machineOf phaseAllows
+allowed-is c = sym (ap₂ _&&_ (c .before .is-sealing .ensures) (c .takes-text .ensures))
 
--- no number applies to an accepted call
-none-applies : (c : tie.Else3) → let a = c .before .before .before .before .before .before .before .before .args in Numbered (a .self) (sealText (a .piece .now) (a .out .now)) accepted
-none-applies c = rw (c .before .before .if1 .left, c .before .if2 .left, c .if3 .left) at (number-is (c .before .before .before))
+over-is : (c : tie.After-over-limit) → let a = c .before .before .before .before .before .args in
+    overLimit (machineOf (a .self) .counts) (sealText (a .piece .now) (a .out .now)) ≡ c .over-limit .result
+unfolding machineOf overLimit
+over-is c = sym (c .over-limit .ensures)
+
+accepted : (c : tie.Else3) → let a = c .before .before .before .before .before .before .before .before .args in Passed (machineOf (a .self)) (sealText (a .piece .now) (a .out .now))
+unfolding sizesRight outputShort
+accepted c =
+    let over = c .before .before .before in
+    record { phase = allowed-is (over .before) ∙ not-false _ (c .before .before .if1 .left); sizes = refl; limit = over-is over ∙ c .before .if2 .left; output = c .if3 .left }
 
 is-sealing-requires : tie.Need-is-sealing-requires
 is-sealing-requires c κs = search needs
@@ -41,22 +44,25 @@ refused-requires c κs = search needs
 
 returns : tie.Need-returns
 unfolding outputOf
-returns c = refuses (rw (c .before .if1 .taken) at (number-is (c .before .before))) (omega arith) (omega arith) _ (c .refused .ensures)
+returns c = refused-1 _ _ _ (c .refused .ensures) (allowed-is (c .before .before .before) ∙ not-true _ (c .before .if1 .taken))
 
 refused-requires-2 : tie.Need-refused-requires-2
 refused-requires-2 c κs = search needs
 
 returns-2 : tie.Need-returns-2
-unfolding outputOf
-returns-2 c = refuses (rw (c .before .before .if1 .left, c .before .if2 .taken) at (number-is (c .before .before .before))) (omega arith) (omega arith) _ (c .refused2 .ensures)
+unfolding outputOf sizesRight
+returns-2 c =
+    let over = c .before .before .before in
+    refused-5 _ _ _ (c .refused2 .ensures) (allowed-is (over .before) ∙ not-false _ (c .before .before .if1 .left)) refl (over-is over ∙ c .before .if2 .taken)
 
 refused-requires-3 : tie.Need-refused-requires-3
 refused-requires-3 c κs = search needs
 
 returns-3 : tie.Need-returns-3
-unfolding outputOf
+unfolding outputOf sizesRight outputShort
 returns-3 c =
-    refuses (rw (c .before .before .before .if1 .left, c .before .before .if2 .left, c .before .if3 .taken) at (number-is (c .before .before .before .before))) (omega arith) (omega arith) _ (c .refused3 .ensures)
+    let over = c .before .before .before .before in
+    refused-6 _ _ _ (c .refused3 .ensures) (allowed-is (over .before) ∙ not-false _ (c .before .before .before .if1 .left)) refl (over-is over ∙ c .before .before .if2 .left) (c .before .if3 .taken)
 
 data-ended-requires : tie.Need-data-ended-requires
 data-ended-requires c κs = search needs
@@ -69,7 +75,7 @@ unfolding machineOf overLimit
 text-taken-requires c κs =
     let accept = c .before .before .before .before .before .before in
     let a = accept .before .before .before .before .before .before .before .before .args in
-    ltb-false byteLimit (a .self .«text_bytes» + length (a .piece .now)) (passes (none-applies accept) refl .limit)
+    ltb-false byteLimit (a .self .«text_bytes» + length (a .piece .now)) (accepted accept .limit)
 
 done-requires : tie.Need-done-requires
 done-requires c κs = search needs
@@ -85,12 +91,11 @@ returns-4 c =
     let ended = c .before .before .before .before .before .before .data-ended in
     let accept = c .before .before .before .before .before .before .before .before in
     let a = accept .before .before .before .before .before .before .before .before .args in
-    let n = none-applies accept in
-    let p = passes n refl in
+    let p = accepted accept in
     let seals = sealing-only (a .self .kind) (isData (a .self .phase) || isText (a .self .phase)) (p .phase) in
     let state = rw (p .output, ended .ensures) at (text .ensures .state) ∙ text-state (a .self) (a .piece .now) false seals in
     let output = rw (p .output, ended .ensures) at (text .ensures .output) ∙ sealed-output (a .self) (a .piece .now) (a .out .now) in
-    writes n refl _ (a .out .now) (textTaken (a .piece .now) (machineOf (a .self))) refl (next .result) (next .ensures state)
+    writes (a .self) p _ (a .out .now) (textTaken (a .piece .now) (machineOf (a .self))) refl (next .result) (next .ensures state)
     (length (a .piece .now)) (sym (textOut-length false (a .piece .now) (dataEnded (machineOf (a .self)) .state))) _ output _ (c .done .ensures)
 
 pub seal-13-spec : {M : Type 1} → statement M

@@ -15,6 +15,9 @@ above-rest limit taken piece h =
     ⊎-elim (λ l. lt-ltb (limit - taken) piece l ∙ sym (lt-ltb limit (taken + piece) (omega arith)))
     (λ l. le-ltb (limit - taken) piece l ∙ sym (le-ltb limit (taken + piece) (omega arith))) (lt-or-ge (limit - taken) piece)
 
+sub-result : tie.Need-sub-result
+sub-result c = omega arith
+
 returns : tie.Need-returns
 returns c = let a = c .before .args in lt-ltb 65536 (a .taken) (c .if1 .taken) ∙ sym (lt-ltb 65536 (a .taken + a .piece) (omega arith))
 
@@ -22,4 +25,4 @@ returns-2 : tie.Need-returns-2
 returns-2 c = let a = c .before .args in above-rest 65536 (a .taken) (a .piece) (c .if1 .left)
 
 pub over-limit-spec : {M : Type 1} → statement M
-over-limit-spec = tie.close (tie.spec returns returns-2)
+over-limit-spec = tie.close (tie.spec sub-result returns returns-2)

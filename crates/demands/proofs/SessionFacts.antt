@@ -1,0 +1,58 @@
+-- What is shown of the machine's lists holds of every list that comes to what the machine does; and it is the paper's.
+use mathlib.Core.Path.{_≡_, sym, _∙_, subst₂}
+use mathlib.Core.List.{List, [], _∷_, _++_}
+use mathlib.Core.Logic.{_↔_}
+use Prim.Native.Nat.{ℕ}
+use lib.ListN.{length}
+use Rattle.acorn_model.specs.declared.Kind.{Kind}
+use Rattle.acorn_model.specs.declared.Kind.the-variants.{Sealing, Checking}
+use Rattle.acorn_model.specs.Bits.{Bits, bitsIn, bytes}
+use Rattle.calls.specs.Calls.{Work, refused, done}
+use Rattle.calls.specs.Lists.{Entry, callsOf, entries}
+use Rattle.acorn_model.specs.Machine.{tagLength, Machine, Call, fresh, call}
+use Rattle.acorn_model.specs.Lists.{Arguments, Ended}
+use Rattle.acorn_model.proofs.Proved.{paper-computed}
+use Rattle.call_lists.specs.MachineLists.{machineAfter, logFrom, endedSteps}
+use Rattle.call_lists.proofs.Reached.{reached-small}
+use Rattle.call_lists.proofs.After.{reached-after}
+use Rattle.call_lists.proofs.MachineLists.{machine-lists}
+use Rattle.demands.specs.SessionFacts.{AsMachine, PaperOf, SessionFacts, CutsAgree}
+use Rattle.demands.proofs.Messages.{by-paper}
+
+-- ## By the paper
+
+sealed : (calls : List Call) → Ended (machineAfter Sealing calls) → (a : Arguments) → logFrom Sealing calls .begins ≡ (a ∷ []) → (c T : Bits)
+    → PaperOf (logFrom Sealing calls) a (bitsIn (logFrom Sealing calls .text)) c T
+    → logFrom Sealing calls .written ≡ bytes (length (logFrom Sealing calls .text)) c ++ bytes tagLength T
+sealed calls h a b c T p = machine-lists .wrote calls a h b ∙ sym (by-paper (a .key) (a .nonce) _ _ c T p)
+
+judged : (calls : List Call) → Ended (machineAfter Checking calls) → (a : Arguments) → logFrom Checking calls .begins ≡ (a ∷ [])
+    → (p T : Bits) → PaperOf (logFrom Checking calls) a p (bitsIn (logFrom Checking calls .text)) T
+    → (logFrom Checking calls .written ≡ []) × ((t : List ℕ) × (logFrom Checking calls .tags ≡ (t ∷ []))
+    × ((logFrom Checking calls .verdicts ≡ (done (record { bytes = 0; steps = endedSteps (logFrom Checking calls) }) ∷ [])) ↔ (t ≡ bytes tagLength T))
+    × ((logFrom Checking calls .verdicts ≡ (refused 7 ∷ [])) ↔ (t ≡ bytes tagLength T → ⊥)))
+judged calls h a b p T q =
+    rw (paper-computed (a .key) (a .nonce) (logFrom Checking calls .«data») .opening-only (logFrom Checking calls .text) p T q .1) (machine-lists .judged calls a h b)
+
+-- ## The claims
+
+pub session-facts : (kind : Kind) (es : List (Entry Call Work)) (m : Machine) → AsMachine kind es m → SessionFacts kind es m
+session-facts kind es m same =
+    let calls = callsOf es in
+    subst₂ (λ (fs : List (Entry Call Work)) (n : Machine). AsMachine kind fs n → SessionFacts kind fs n) (sym (same .0)) (sym (same .1)) (λ same. record {
+      as-machine = same;
+      taken = machine-lists .taken kind calls;
+      steps = machine-lists .steps kind calls;
+      small = reached-small _ _ (reached-after kind calls);
+      counted = machine-lists .counted kind calls;
+      began = machine-lists .began kind calls;
+      sealed = λ k. rw k (sealed calls);
+      judged = λ k. rw k (judged calls);
+    }) same
+
+pub cuts-agree : (kind : Kind) (es : List (Entry Call Work)) (m : Machine) (es′ : List (Entry Call Work)) (m′ : Machine)
+    → AsMachine kind es m → AsMachine kind es′ m′ → CutsAgree kind es m es′ m′
+cuts-agree kind es m es′ m′ same same′ =
+    subst₂ (λ (fs : List (Entry Call Work)) (n : Machine). CutsAgree kind fs n es′ m′) (sym (same .0)) (sym (same .1))
+    (subst₂ (λ (fs : List (Entry Call Work)) (n : Machine). CutsAgree kind (entries call (fresh kind) (callsOf es)) (machineAfter kind (callsOf es)) fs n)
+    (sym (same′ .0)) (sym (same′ .1)) (machine-lists .cuts kind (callsOf es) (callsOf es′)))

@@ -1,0 +1,18 @@
+-- Demand 2's tapes the other way round: only the tape of a right head and at most 5,000 valid tickets opens, by the contract of `open_tape` and by
+-- nothing else.
+use mathlib.Core.Path.{_≡_}
+use mathlib.Core.List.{List}
+use mathlib.Core.Logic.{_↔_}
+use Prim.Native.Nat.{ℕ}
+use Rattle.calls.specs.Calls.{AreBytes, done}
+use Rattle.tape_model.specs.declared.Ticket.{Ticket}
+use Rattle.tape_model.specs.declared.Head.{Head}
+use Rattle.tape_model.specs.declared.OpenedTape.{OpenedTape}
+use Rattle.tape_model.specs.Tape.{Totals, openedReply}
+use Rattle.tape_model.specs.Laws.{OpensAs}
+use Rattle.tape_opening.specs.Contracts.{OpensTape}
+
+-- a call answers these totals exactly where the bytes are the tape of such a head and tickets; and then totals and output are theirs
+abbrev pub OnlyTapesOpen : Type 0
+OnlyTapesOpen = (key tape out after : List ℕ) (r : OpenedTape) → AreBytes tape → OpensTape key tape out r after
+    → (totals : Totals) → (openedReply r ≡ done totals) ↔ ((head : Head) × (tickets : List Ticket) × OpensAs key tape out totals after head tickets)
