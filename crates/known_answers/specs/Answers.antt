@@ -23,7 +23,7 @@ AllGiven (a ∷ others) = Given a × AllGiven others
 abbrev pub sixteenZeros : List ℕ
 sixteenZeros = replicate 16 0
 
--- answers of ACORN-128 version 3 as a public test suite has them (docs/DECISIONS.md): one byte of text, and one byte of data
+-- published answers, as the test suite of a public implementation of version 3 carries them (docs/DECISIONS.md): one byte of text, and one of data
 abbrev pub published : List KnownAnswer
 published =
     record {
