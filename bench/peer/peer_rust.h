@@ -1,4 +1,4 @@
-/* The peer in Rust (rust/peer): messages, and tapes with the ticket rule, phases and counts. Its opening decrypts into a buffer of its own,
+/* The peer in Rust (bench/peer_rust): messages, and tapes with the ticket rule, phases and counts. Its opening decrypts into a buffer of its own,
  * and writes nothing unless the tag matches and every ticket unpacks. */
 #ifndef PEER_RUST_H
 #define PEER_RUST_H

@@ -1,9 +1,5 @@
-/* A first example: two tickets go onto a tape, the tape is opened and read back, and a message is sealed and checked in pieces.
- *
- *     rt staticlib haul_tape
- *     gcc -std=c11 -Wall -Wextra -Iinclude examples/c/tape.c target/staticlib/libhaul_tape.a -o target/tape && target/tape
- *
- * It uses every call of the header, prints what it read, and ends with 1 where anything is not as it should be.
+/* Every call of the header: two tickets go onto a tape, the tape is opened and read back, and a message is sealed and checked in pieces.
+ * Prints what it read, and ends with 1 where anything is not as it should be.
  */
 #include "haul_tape.h"
 
@@ -22,7 +18,7 @@ _Static_assert(sizeof(ht_reading) == 40 && sizeof(ht_unpacked_ticket) == 28 && s
 static void must(int holds, const char *what)
 {
     if (!holds) {
-        fprintf(stderr, "tape: %s\n", what);
+        fprintf(stderr, "calls: %s\n", what);
         exit(1);
     }
 }
