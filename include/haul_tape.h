@@ -1,5 +1,5 @@
 /* The haul tape library: ACORN-128 v3, haul tickets and shift tapes. Link libhaul_tape.a, which needs the C library's memcpy and
- * memset and no more.
+ * memset and no more. It is built for x86-64, and uses SSE registers as the calling convention there has it.
  *
  * Nothing here allocates or keeps anything: sessions and writers are structs of words that the caller places, and every
  * buffer comes with its length. No call reads or writes beyond the lengths given. An output, session or writer must not overlap
@@ -8,13 +8,14 @@
  *
  * Secrets: the words of a session or writer that is not closed are as secret as its key. A close that is done or ends with 7, and a
  * finish that is done, put zeros in place of the cipher's state, so that counts and phase are left; one that is sent back stores
- * nothing. An opening that ends with 7 leaves nothing of the decrypted text on the stack; one that ends with 8, or a listing with 6,
- * no 8 bytes of it in a row, but single fields of a ticket and sums may stay. A call that is done may leave text there, and every
- * call that runs the cipher words of its state, which with the ciphertext give the text: who must not leave these clears the
- * stack below. In sealing, sessions, the writer, opening and listing no branch and no address depends on the key, the text or the
- * state, but for the verdict on a tag, the rule on a ticket, and what a listing prints. Tested, as built for x86-64.
+ * nothing. A session or writer that is given up is cleared by setting it fresh. After an opening refused with 7 or 8, or a listing refused with 6, no 8 bytes of the decrypted text in a row are on the
+ * stack, nor the whole of a text of 4 to 7; after 8 and after 6 single fields of a ticket and sums may be. A call that is done may
+ * leave text there. Every call that runs the cipher may leave words of its state there, and these with the ciphertext give the
+ * text: a caller that must not leave them overwrites the stack below the call. In sealing, sessions, the writer, opening and
+ * listing no branch and no address depends on the key, the text or the state, but for the verdict on a tag, the rule on a ticket,
+ * and what a listing prints. Tested, as built for x86-64.
  *
- * A key and nonce must serve one message only, and a key and head one tape only: the caller sees to that.
+ * Never use a key and nonce for a second message, nor a key and head for a second tape: nothing here can notice it.
  *
  * Stack, at most, from the return address down, tested on x86-64 (a dynamic linker that binds memcpy and memset late takes more,
  * once):
@@ -99,7 +100,8 @@ ht_answer ht_session_data(ht_session *s, const uint8_t *piece, size_t piecelen);
 ht_answer ht_session_seal_text(ht_session *s, const uint8_t *piece, size_t piecelen, uint8_t *out, size_t outlen); /* 1, 5, 6 */
 ht_answer ht_session_seal_close(ht_session *s, uint8_t *out, size_t outlen);                                       /* 1, 6 */
 
-/* checking: takes ciphertext and writes nothing; the close is given the tag. 7 closes the session, too. */
+/* checking: takes ciphertext and writes nothing; the close is given the tag. 7 closes the session, too. There is no opening in pieces:
+ * text is given by ht_open alone. */
 ht_answer ht_session_check_text(ht_session *s, const uint8_t *piece, size_t piecelen); /* 1, 5 */
 ht_answer ht_session_check_close(ht_session *s, const uint8_t *tag, size_t taglen);    /* 1, 2, 7 */
 
@@ -152,8 +154,9 @@ typedef struct { uint32_t refused; uint32_t at_end; uint64_t position; ht_ticket
 
 ht_reading ht_read_ticket(const uint8_t *plain, size_t plainlen, uint64_t position);
 
-/* The listing of a tape as ASCII text: 'TAPE', device, shift and sheet; a line a ticket; 'TOTAL', tickets and total net. Of a tape
- * that does not open the text is 'REFUSED' and the number, and the call is done. 6 where the text does not fit. */
+/* The listing of a tape as ASCII text: 'TAPE', device, shift and sheet; a line for each ticket with position from 1, truck, shovel,
+ * tip point, grade, loaded, tipped and net; 'TOTAL', tickets and total net. Of a tape that does not open the text is 'REFUSED' and
+ * the number, and the call is done. 6 where the text does not fit. */
 ht_written ht_list_tape(const uint8_t *key, size_t keylen, const uint8_t *tape, size_t tapelen, uint8_t *out, size_t outlen);
 
 #ifdef __cplusplus

@@ -1,4 +1,5 @@
-/* Measures the stack that each call of the header takes, and holds it against the table below, whose numbers the header states.
+/* Measures the stack that each call of the header takes, and holds it against the table below. The script that runs it
+ * compares the table with the header.
  *
  * Counted are the bytes from the call's return address downwards; arguments on the stack are the caller's. Each case is run
  *

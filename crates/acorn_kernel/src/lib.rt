@@ -1,4 +1,4 @@
-// The state of ACORN-128 v3 in six words, and up to 32 steps together: their ks and f bits are formed as words from the state before them.
+// The state of ACORN-128 v3 in six words, and up to 32 steps together, whose ks and f come as words out of the state before.
 mod word;
 
 use word::choice;

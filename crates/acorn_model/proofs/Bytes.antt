@@ -9,6 +9,7 @@ use lib.ListN.{length, getD, List·getD-append}
 use lib.Seq.{getD-append-add}
 use Rattle.acorn_model.specs.Bits.{Bits, bit, bitsIn, number, bytes}
 use Rattle.calls.specs.Calls.{AreBytes}
+use Rattle.acorn_model.specs.Laws.{BitOrder}
 use Rattle.acorn_model.proofs.Numbers.{number-of, number-same, number-bit, number-lt}
 use Rattle.calls.proofs.Choices.{lt-or-ge}
 
@@ -89,3 +90,18 @@ bytes-of-bits [] h = refl
 bytes-of-bits (x ∷ l) h =
     ap₂ _∷_ (number-same 8 (bitsIn (x ∷ l)) (bit x) (λ j m. bits-first x l j m) ∙ number-of 8 x ∙ mod-eq-of-lt (h 0))
     (bytes-same (length l) (λ i. bitsIn (x ∷ l) (8 + i)) (bitsIn l) (λ j m. bits-rest x l j) ∙ bytes-of-bits l (λ p. h (suc p)))
+
+-- ## The order of the bits
+
+bit-in-string : (string : List ℕ) (k j : ℕ) → j < 8 → bitsIn string (8 * k + j) ≡ bit (getD string k 0) j
+unfolding bitsIn
+bit-in-string string k j h =
+    let d : (8 * k + j) / 8 ≡ k = omega arith in
+    let e : (8 * k + j) % 8 ≡ j = omega arith in
+    ap₂ (λ (a b : ℕ). bit (getD string a 0) b) d e
+
+pub bit-order : BitOrder
+bit-order = record {
+  in-string = bit-in-string;
+  made = λ n k j b h l. sym (bit-in-string (bytes n b) k j l) ∙ bits-of-bytes n b (8 * k + j) (omega arith);
+}

@@ -8,6 +8,10 @@ use lib.ListN.{length, length-append}
 use Rattle.acorn_model.specs.Bits.{Bits, _⊕_, bitsIn, bytes}
 use Rattle.acorn_model.specs.Step.{StepInput, run, keystreamBit}
 use Rattle.acorn_model.specs.Stretches.{Stretch, start, dataPiece, dataEnd, textPiece, textEnd, inputs, through, keystream, textOut, tagOf, zeros, afterData, beforeFinal, dataPieces, textPieces, textPiecesOut, joined}
+use Rattle.acorn_model.specs.declared.Kind.{Kind}
+use Rattle.acorn_model.specs.declared.Phase.the-variants.{Text}
+use Rattle.calls.specs.Calls.{_if_else_}
+use Rattle.acorn_model.specs.Machine.{Machine, isChecking, isData, runThrough, enter, countData, countText, dataTaken, dataEnded, textTaken}
 use Rattle.acorn_model.proofs.Bytes.{bytes-same, bytes-add, bits-left, bits-right}
 use Rattle.acorn_model.proofs.Runs.{run-same, run-none, run-on}
 
@@ -100,3 +104,46 @@ module _ (key nonce : List ℕ) (ds : List (List ℕ)) where
 
     pub message-tag : tagOf (through textEnd (textPieces opening ts (through dataEnd (dataPieces ds (through (start key nonce) zeros))))) ≡ tagOf (beforeFinal opening (joined ts) (afterData key nonce (joined ds)))
     message-tag = ap (λ (S : Bits). tagOf (through textEnd S)) (textPieces-joined opening ts _ ∙ ap (through (textPiece opening (joined ts))) after-data-pieces)
+
+-- ## The machine
+
+ended-kind : (m : Machine) → dataEnded m .kind ≡ m .kind
+unfolding dataEnded runThrough
+ended-kind m = by (isData (m .phase))
+  where
+    by : (b : Bool) → (runThrough dataEnd m if b else m) .kind ≡ m .kind
+    by true = refl
+    by false = refl
+
+module _ (m : Machine) (a b : List ℕ) where
+  -- counted one after the other, or at once
+  counted : (n : ℕ) → (n + length a) + length b ≡ n + length (a ++ b)
+  counted n = omega (arith, length-append a b)
+
+  stepped : (n : ℕ) → (n + 8 * length a) + 8 * length b ≡ n + 8 * length (a ++ b)
+  stepped n = omega (arith, length-append a b)
+
+  pub data-in-pieces : dataTaken b (dataTaken a m) ≡ dataTaken (a ++ b) m
+  unfolding dataTaken runThrough countData
+  data-in-pieces =
+      let S = sym (dataPiece-append a b (m .state)) in
+      λ i. record {
+        kind = m .kind;
+        phase = m .phase;
+        state = S i;
+        counts = record { dataBytes = counted (m .counts .dataBytes) i; textBytes = m .counts .textBytes; steps = stepped (m .counts .steps) i };
+      }
+
+  pub text-in-pieces : textTaken b (textTaken a m) ≡ textTaken (a ++ b) m
+  unfolding textTaken dataEnded runThrough countText enter
+  text-in-pieces =
+      let e = dataEnded m in
+      let S =
+      ap (λ (k : Kind). through (textPiece (isChecking k) b) (through (textPiece (isChecking (m .kind)) a) (e .state))) (ended-kind m)
+      ∙ sym (textPiece-append (isChecking (m .kind)) a b (e .state)) in
+      λ i. record {
+        kind = e .kind;
+        phase = Text;
+        state = S i;
+        counts = record { dataBytes = e .counts .dataBytes; textBytes = counted (e .counts .textBytes) i; steps = stepped (e .counts .steps) i };
+      }

@@ -7,9 +7,9 @@ use Rattle.acorn_model.specs.Stretches.{joined}
 use Rattle.acorn_model.specs.Paper.{ciphertext, tag, decrypted, newTag}
 use Rattle.calls.specs.Calls.{unlessRefused, refusedWith}
 use Rattle.acorn_model.specs.Machine.{Machine, Call, begin, dataCall, sealText, checkText, sealClose, checkClose, outputOf, call}
-use Rattle.acorn_model.specs.Laws.{PaperComputed, OpeningExact, StretchesAgree, MessageLaws, SentBack, SentBackLaws}
+use Rattle.acorn_model.specs.Laws.{PaperComputed, OpeningExact, StretchesAgree, MessageLaws, PieceLaws, SentBack, SentBackLaws}
 use Rattle.acorn_model.proofs.Agree.{ciphertext-agrees, tag-agrees, decrypted-agrees, newTag-agrees}
-use Rattle.acorn_model.proofs.Pieces.{message-out, message-tag}
+use Rattle.acorn_model.proofs.Pieces.{message-out, message-tag, data-in-pieces, text-in-pieces}
 use Rattle.acorn_model.proofs.Inverse.{decrypted-ciphertext, opens-with-tag, opens-exactly}
 use Rattle.acorn_model.proofs.Relation.{sealing-by-paper, sealing-only, opening-by-paper, opening-only}
 use Rattle.acorn_model.proofs.Whole.{opened-exactly}
@@ -63,6 +63,9 @@ module _ (key nonce «data» : List ℕ) where
         open-refused = open-refused key nonce «data»;
         sevens-alike = sevens-alike key nonce «data»;
       }
+
+pub piece-laws : (m : Machine) → PieceLaws m
+piece-laws m = record { of-data = data-in-pieces m; of-text = text-in-pieces m }
 
 sent-back : (m : Machine) (c : Call) → SentBack m c (outputOf c)
 unfolding call unlessRefused refusedWith

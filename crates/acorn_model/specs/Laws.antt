@@ -1,16 +1,21 @@
 -- What is shown of the cipher's definitions, for every key, nonce, data and text: the statements, to be read without their proofs.
 use mathlib.Core.Path.{_≡_}
 use mathlib.Core.Bool.{Bool, true, false}
-use mathlib.Core.List.{List, []}
+use mathlib.Core.List.{List, [], _++_}
 use mathlib.Core.Logic.{_↔_}
 use Prim.Native.Nat.{ℕ, suc, _+_, _*_, _≤_, _<_}
-use lib.ListN.{length, take}
-use Rattle.acorn_model.specs.Bits.{Bits, bitsIn, bytes}
+use lib.ListN.{length, take, getD}
+use Rattle.acorn_model.specs.Bits.{Bits, bit, bitsIn, bytes}
 use Rattle.calls.specs.Calls.{AreBytes, refused, done, writtenOver}
 use Rattle.acorn_model.specs.Paper.{Encrypts, ciphertext, tag, decrypted, newTag, Opens}
 use Rattle.acorn_model.specs.Stretches.{Stretch, paperTagLength, textOut, tagOf, through, textEnd, afterData, beforeFinal, textPieces, textPiecesOut, joined, afterDataPieces}
-use Rattle.acorn_model.specs.Machine.{Machine, Call, begin, dataCall, sealText, checkText, sealClose, checkClose, keyLength, nonceLength, tagLength, byteLimit, refusal, call}
+use Rattle.acorn_model.specs.Machine.{Machine, Call, begin, dataCall, sealText, checkText, sealClose, checkClose, keyLength, nonceLength, tagLength, byteLimit, refusal, dataTaken, textTaken, call}
 use Rattle.acorn_model.specs.Message.{sealed, tagMatches, opened, sealMessage, openMessage}
+
+-- In a string, bit 8k+j (j below 8) has weight 2^j in byte k; and in the n bytes that bits make, the weight 2^j of byte k is bit 8k+j of them.
+pub record BitOrder : Type 0 where
+  pub in-string : (string : List ℕ) (k j : ℕ) → j < 8 → bitsIn string (8 * k + j) ≡ bit (getD string k 0) j
+  pub made : (n k j : ℕ) (b : Bits) → k < n → j < 8 → bit (getD (bytes n b) k 0) j ≡ b (8 * k + j)
 
 -- the same bits 0 to 292
 abbrev pub SameState : Bits → Bits → Type 0
@@ -96,10 +101,18 @@ module _ (key nonce «data» : List ℕ) where
     pub seal-refused : (n : ℕ) (text out : List ℕ) → sealMessage key nonce «data» text out .answer ≡ refused n → sealMessage key nonce «data» text out .out ≡ out
     pub open-refused : (n : ℕ) (sealedBytes out : List ℕ) → openMessage key nonce «data» sealedBytes out .answer ≡ refused n
         → openMessage key nonce «data» sealedBytes out .out ≡ out
-    -- two openings that both end on a differing tag, with equal outputs before, give the same answer and leave equal outputs
+    -- two openings that end with 7, on equal outputs, give the same answer and leave equal outputs
     pub sevens-alike : (key′ nonce′ data′ sealedBytes sealedBytes′ out : List ℕ) → openMessage key nonce «data» sealedBytes out .answer ≡ refused 7
         → openMessage key′ nonce′ data′ sealedBytes′ out .answer ≡ refused 7
         → openMessage key nonce «data» sealedBytes out ≡ openMessage key′ nonce′ data′ sealedBytes′ out
+
+-- ## Data and text in pieces
+
+-- Data that the machine takes in two pieces, or text, leads to the same machine as both at once: its state, phase and counts. So a piece does not end
+-- the data, and each piece of text has its effect.
+pub record PieceLaws (m : Machine) : Type 0 where
+  pub of-data : (a b : List ℕ) → dataTaken b (dataTaken a m) ≡ dataTaken (a ++ b) m
+  pub of-text : (a b : List ℕ) → textTaken b (textTaken a m) ≡ textTaken (a ++ b) m
 
 -- ## A call that is sent back
 

@@ -1,5 +1,6 @@
 -- The statements of specs/WriterLists.antt, proved from what a list leads to.
 use mathlib.Core.Path.{_≡_, sym, ap, ap₂, _∙_, subst}
+use mathlib.Core.Bool.{false}
 use mathlib.Core.List.{List, [], _++_, append-nil}
 use Prim.Native.Nat.{ℕ, _≤_}
 use native.Mathlib.Omega.{arith}
@@ -8,25 +9,27 @@ use Rattle.acorn_model.specs.declared.Kind.the-variants.{Sealing}
 use Rattle.acorn_model.specs.declared.Phase.{Phase}
 use Rattle.acorn_model.specs.declared.Phase.the-variants.{Closed as MachineClosed}
 use Rattle.calls.specs.Calls.{done, Work, Outcome, refusedWith}
-use Rattle.acorn_model.specs.Machine.{Machine}
+use Rattle.acorn_model.specs.Machine.{Machine, dataEnded, textEnded, wrote, answered, work as machineWork}
 use Rattle.acorn_model.specs.Lists.{Log}
 use Rattle.acorn_model.specs.Message.{sealed}
+use Rattle.tape_model.specs.declared.Ticket.{Ticket}
 use Rattle.tape_model.specs.declared.Head.{Head}
 use Rattle.tape_model.specs.declared.WriterPhase.{WriterPhase}
 use Rattle.tape_model.specs.declared.WriterPhase.the-variants.{Fresh, Open, Closed}
-use Rattle.tape_model.specs.Ticket.{packHead}
+use Rattle.tape_model.specs.Ticket.{packTicket, packHead}
 use Rattle.tape_model.specs.Tape.{nonceOf, tapeOf}
-use Rattle.tape_model.specs.Writer.{PlainWriter, freshWriter, WriterCall, start, refusal, outputOf, work, writerCall}
+use Rattle.tape_model.specs.Writer.{PlainWriter, freshWriter, WriterCall, start, add, finish, refusal, outputOf, work, writerCall}
 use Rattle.call_lists.specs.MachineLists.{logFrom}
 use Rattle.tape_model.specs.WriterLists.{WriterLog, headsOf}
 use Rattle.call_lists.specs.WriterLists.{writerAfter, writerLogFrom, StartsRight, WriterLists}
-use Rattle.tape_model.proofs.Tickets.{all-writable-valid}
+use Rattle.acorn_model.proofs.Outputs.{textOut-length, tagOf-length}
+use Rattle.tape_model.proofs.Tickets.{ticket-length, all-writable-valid}
 use Rattle.tape_model.proofs.Tapes.{tapes-come-back}
 use Rattle.calls.proofs.Refusals.{by-number}
 use Rattle.tape_model.proofs.Refusals.{writer-passed}
 use Rattle.call_lists.proofs.MachineLists.{machine-lists}
 use Rattle.call_lists.proofs.WriterReached.{Begun, WriterMeans, WriterReached, writer-in-phase}
-use Rattle.call_lists.proofs.WriterAccepts.{machine-passed, accepted-work}
+use Rattle.call_lists.proofs.WriterAccepts.{machine-passed, comesTo, accepted-work}
 use Rattle.call_lists.proofs.WriterValid.{tickets-right, starts-right}
 use Rattle.call_lists.proofs.WriterKept.{writer-reached}
 
@@ -56,14 +59,31 @@ module _ (w : PlainWriter) (log : WriterLog) (r : WriterReached w log) where
       (ap (λ (l : Log). l .«data») (sym e) ∙ b .«data») (ap (λ (l : Log). l .text) (sym e) ∙ b .text) in
       r .written ∙ ap₂ _++_ (ap headsOf (b .starts) ∙ append-nil (packHead (b .started .head))) text
 
-  start-answers : (key out : List ℕ) (head : Head) (a : Work) → writerCall w (start key head out) .answer ≡ done a → a ≡ record { bytes = 9; steps = 1864 }
+  -- an accepted call answers what it comes to
+  accepted-answer : (c : WriterCall) (a : Work) → writerCall w c .answer ≡ done a → comesTo w c .answer ≡ done a
   unfolding writerCall refusedWith
-  start-answers key out head a =
-      let c : WriterCall = start key head out in
-      by-number (λ (o : Outcome PlainWriter Work). o .answer ≡ done a → a ≡ record { bytes = 9; steps = 1864 })
+  accepted-answer c a =
+      by-number (λ (o : Outcome PlainWriter Work). o .answer ≡ done a → comesTo w c .answer ≡ done a)
       (refusal w c) (work w c) (refusedWith (refusal w c) w (outputOf c))
-      (λ n h. let s = ap (λ (o : Outcome PlainWriter Work). o .answer) (accepted-work w c (machine-passed w log c r (writer-passed w c n))) in cc)
+      (λ n h. sym (ap (λ (o : Outcome PlainWriter Work). o .answer) (accepted-work w c (machine-passed w log c r (writer-passed w c n)))) ∙ h)
       (λ _ h. cc)
+
+  start-answers : (key out : List ℕ) (head : Head) (a : Work) → writerCall w (start key head out) .answer ≡ done a → a ≡ record { bytes = 9; steps = 1864 }
+  start-answers key out head a h = let e = accepted-answer (start key head out) a h in cc
+
+  add-answers : (ticket : Ticket) (out : List ℕ) (a : Work) → writerCall w (add ticket out) .answer ≡ done a → a .bytes ≡ 13
+  unfolding machineWork wrote answered
+  add-answers ticket out a h =
+      let e = accepted-answer (add ticket out) a h in
+      let long = textOut-length false (packTicket ticket) (dataEnded (w .machine) .state) ∙ ticket-length ticket in
+      cc
+
+  finish-answers : (out : List ℕ) (a : Work) → writerCall w (finish out) .answer ≡ done a → a .bytes ≡ 16
+  unfolding machineWork wrote answered
+  finish-answers out a h =
+      let e = accepted-answer (finish out) a h in
+      let long = tagOf-length (textEnded (w .machine) .state) in
+      cc
 
 -- ## The claims
 
@@ -91,4 +111,6 @@ writer-lists = record {
             (omega (arith, r .tickets, r .fits)),
       );
   start-answers = λ calls key out head a. start-answers (writerAfter calls) (writerLogFrom calls) (writer-reached calls) key out head a;
+  add-answers = λ calls ticket out a. add-answers (writerAfter calls) (writerLogFrom calls) (writer-reached calls) ticket out a;
+  finish-answers = λ calls out a. finish-answers (writerAfter calls) (writerLogFrom calls) (writer-reached calls) out a;
 }

@@ -47,7 +47,7 @@ pub record MachineLists : Type 0 where
   -- in every phase the count is that of the stretches run and of the bytes taken
   pub steps : (kind : Kind) (calls : List Call)
       → machineAfter kind calls .counts .steps ≡ phaseSteps (machineAfter kind calls .phase) + byteSteps (logFrom kind calls)
-  -- once a close has ended the session, tag good or not, the count is 3,072 plus 8 for each byte of data and text taken
+  -- closed, with whatever verdict: 3,072 steps, and 8 for each byte taken
   pub counted : (kind : Kind) (calls : List Call) → Ended (machineAfter kind calls)
       → machineAfter kind calls .counts .steps ≡ endedSteps (logFrom kind calls)
   -- an ended session began once
@@ -63,7 +63,7 @@ pub record MachineLists : Type 0 where
       ↔ (t ≡ newTag (a .key) (a .nonce) (logFrom Checking calls .«data») (logFrom Checking calls .text)))
       × ((logFrom Checking calls .verdicts ≡ (refused 7 ∷ []))
       ↔ (t ≡ newTag (a .key) (a .nonce) (logFrom Checking calls .«data») (logFrom Checking calls .text) → ⊥)))
-  -- ended sessions that are alike wrote the same bytes in as many steps and, checking, got the same good or 7
+  -- ended sessions that are alike agree in the bytes written, in the steps and, where they check, in the verdict
   pub cuts : (kind : Kind) (calls calls' : List Call) → Ended (machineAfter kind calls) → Ended (machineAfter kind calls')
       → Alike kind (logFrom kind calls) (logFrom kind calls')
       → (logFrom kind calls .written ≡ logFrom kind calls' .written)

@@ -53,6 +53,11 @@ pub record WriterLists : Type 0 where
   -- an accepted start answers 9 bytes and 1,864 steps
   pub start-answers : (calls : List WriterCall) (key out : List ℕ) (head : Head) (w : Work)
       → writerCall (writerAfter calls) (start key head out) .answer ≡ done w → w ≡ record { bytes = 9; steps = 1864 }
+  -- an accepted add answers 13 bytes, and an accepted finish 16
+  pub add-answers : (calls : List WriterCall) (ticket : Ticket) (out : List ℕ) (w : Work)
+      → writerCall (writerAfter calls) (add ticket out) .answer ≡ done w → w .bytes ≡ 13
+  pub finish-answers : (calls : List WriterCall) (out : List ℕ) (w : Work)
+      → writerCall (writerAfter calls) (finish out) .answer ≡ done w → w .bytes ≡ 16
 
 -- ## Every tape is written
 

@@ -1,4 +1,4 @@
--- Every list of at most 5,000 valid tickets comes back: the writer's calls come to the plain writer's, what these write is the tape, and what opening
+-- Tickets come back from their tape: the writer's calls come to the plain writer's, what these write is the tape, and what opening
 -- and reading a tape give is known of the definitions.
 use mathlib.Core.Path.{_≡_, sym, ap, _∙_, subst}
 use mathlib.Core.Bool.{true}

@@ -98,7 +98,7 @@ module _ (words : List ℕ) (c : Call) (after : List ℕ) (r : HtAnswer) (out : 
 -- a call on any words of a writer
 module _ (words : List ℕ) (c : WriterCall) (after : List ℕ) (r : HtAnswer) (out : List ℕ) where
   pub record WriterNumbers : Type 0 where
-    -- the smallest number that applies is given
+    -- where a number applies, the smallest is answered
     pub number : (n : ℕ) → plain.refusal (plainWriterIn words) c ≡ suc n → r .refused ≡ suc n
     -- and only then, on words that calls led to from a fresh writer's
     pub exactly : (es : List (Entry WriterCall Work)) → WriterWords es words → r .refused ≡ plain.refusal (plainWriterIn words) c

@@ -42,8 +42,8 @@ use Rattle.demands.specs.Writers.{WriterList}
 
 -- ## Numbers
 
--- "The smallest number that applies is given, and only then" (document 01), where n is that number, or 0 if none applies: the answer is the number k
--- exactly where n is k, and the call is accepted exactly where none applies
+-- Document 01's rule of the smallest number, where n is that number, or 0 if none applies: the answer is the number k exactly where n is k, and the
+-- call is accepted exactly where none applies
 pub record AnsweredBy {A : Type 0} (n : ℕ) (answer : Reply A) : Type 0 where
   pub refuses : (k : ℕ) → (answer ≡ refused (suc k)) ↔ (n ≡ suc k)
   pub accepts : ((a : A) × (answer ≡ done a)) ↔ (n ≡ accepted)
@@ -80,7 +80,7 @@ module _ (s : Session) (c : Call) (r : SessionReply) (out : List ℕ) (called : 
 
 module _ (w : Writer) (c : WriterCall) (r : WriterReply) (out : List ℕ) (called : WriterCalled w c r out) where
   pub record WriterRefusals : Type 0 where
-    -- on any value of the struct, the smallest number that applies is given
+    -- on any value of the struct, where a number applies, the smallest is answered
     pub number : (n : ℕ) → plain.refusal (writerOf w) c ≡ suc n → answerReply (r .answer) ≡ refused (suc n)
     -- and only then, on a writer that calls led to from a fresh one
     pub exactly : (es : List (Entry WriterCall Work)) → WriterList es w → AnsweredBy (plain.refusal (writerOf w) c) (answerReply (r .answer))

@@ -38,8 +38,7 @@ pub record SessionFacts (kind : Kind) (es : List (Entry Call Work)) (m : Machine
   pub counted : Ended m → m .counts .steps ≡ endedSteps (logOf es)
   -- demand 2: an ended session has one accepted begin
   pub began : Ended m → (a : Arguments) × (logOf es .begins ≡ (a ∷ []))
-  -- demand 2, "sealing gives the ciphertext and tag of ACORN-128 version 3": an ended sealing session wrote, over the list, the ciphertext and then the
-  -- tag that the paper gives for the text taken
+  -- demand 2, of sealing: an ended sealing session wrote, over the list, the ciphertext and then the tag that the paper gives for the text taken
   pub sealed : kind ≡ Sealing → Ended m → (a : Arguments) → logOf es .begins ≡ (a ∷ []) → (c T : Bits) → PaperOf (logOf es) a (bitsIn (logOf es .text)) c T
       → logOf es .written ≡ bytes (length (logOf es .text)) c ++ bytes tagLength T
   -- demand 2, "exactly when the tag is that one": an ended checking session wrote nothing, was given one tag, and said good exactly when that is the

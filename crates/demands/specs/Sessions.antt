@@ -1,5 +1,4 @@
--- Demand 3 on sessions, and demand 2: every list of begin, data, text and close calls from a fresh session, sealing or checking, refused calls and
--- empty pieces among them.
+-- Demand 3 on sessions, and demand 2: over all lists of a session's calls, of either kind, whatever their pieces and whichever are refused.
 use mathlib.Core.Path.{_≡_}
 use mathlib.Core.List.{List}
 use Rattle.acorn_model.specs.declared.Kind.{Kind}

@@ -1,5 +1,5 @@
--- Demand 2, "Every list of at most 5,000 valid tickets comes back from its tape": from the writer's calls by way of opening to the reader's calls,
--- each by the contract of its function and by nothing else.
+-- Demand 2, of tapes: tickets come back, from the writer's calls by way of opening to the reader's calls, each by the contract of its function and
+-- by nothing else.
 use mathlib.Core.Path.{_≡_}
 use mathlib.Core.Bool.{true}
 use mathlib.Core.List.{List, [], _∷_}

@@ -1,4 +1,4 @@
--- Demand 3 on the tape writer: every list of start, add and finish calls from a fresh writer, refused ones among them.
+-- Demand 3 on the tape writer: over all lists of a writer's calls, whichever are refused.
 use mathlib.Core.Path.{_≡_}
 use mathlib.Core.List.{List, [], _∷_, _++_}
 use Prim.Native.Nat.{_≤_, _^_, _<_}

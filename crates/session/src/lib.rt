@@ -1,5 +1,5 @@
-// A session of ACORN-128 v3. Every call takes the session and hands back the session after it, with an answer: a refusal number, or the bytes
-// that the call wrote and the steps run since the session was fresh. A refused call changes nothing, but that a wrong tag closes.
+// A session of ACORN-128 v3. A call takes the session by value and returns the one after it, with an answer: a refusal number, or how many bytes
+// were written and how many steps the session has run. A refused call changes nothing, but that a wrong tag closes.
 mod phase_runs;
 mod refusal;
 mod words;

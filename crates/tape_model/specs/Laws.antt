@@ -59,7 +59,7 @@ pub record TicketLaws : Type 0 where
   pub head-values : (h : Head) → Fit (widths headFormat) (headValues h) → headValuesIn (packHead h) ≡ headValues h
   -- the first four bits of a packed ticket are its form, by whichever form's fields the bytes are read
   pub form-first : (form : ℕ) (string : List ℕ) → AreBytes string → length string ≡ ticketLength → getD (unpack (widths (formatOf form)) string) 0 0 ≡ formIn string
-  -- the nonce is the head's 9 bytes and 7 zero bytes
+  -- a tape's nonce: its packed head, filled up with zeros
   pub nonce : (h : Head) → nonceOf (packHead h) ≡ packHead h ++ (0 ∷ 0 ∷ 0 ∷ 0 ∷ 0 ∷ 0 ∷ 0 ∷ [])
   -- the total net of one ticket is its gross minus its tare, and that of two lists together is the sum
   pub net-one : (t : Ticket) → totalNet (t ∷ []) ≡ t .gross - t .tare

@@ -6,18 +6,10 @@ use crate::{Done, Head, Refusal, Ticket};
 impl Refusal {
     /// What an answer's field `refused` says.
     pub(crate) fn check(refused: u32) -> Result<(), Refusal> {
-        Err(match refused {
-            0 => return Ok(()),
-            1 => Refusal::Phase,
-            2 => Refusal::Size,
-            3 => Refusal::Head,
-            4 => Refusal::Ticket,
-            5 => Refusal::Limit,
-            6 => Refusal::Output,
-            7 => Refusal::Tag,
-            8 => Refusal::Unpack,
-            other => unreachable!("the library has no refusal {other}"),
-        })
+        if refused == 0 {
+            return Ok(());
+        }
+        Err(Refusal::from_number(refused).expect("a number of the library"))
     }
 }
 

@@ -1,6 +1,8 @@
 //! The exports of the C header one by one, with slices in place of pointers and lengths.
 //!
-//! Answers are as in C: `refused` is 0 where the call was done, else the number that sent it back.
+//! Answers are as in C: `refused` is 0 where the call was done, else the number that sent it back
+//! (see [`Refusal`](crate::Refusal)). The numbers beside a call are those with which it may be
+//! refused; the smallest that applies is given.
 //! Most programs want the types at the root of the crate instead; these calls are there for tests,
 //! and for whoever needs a session whose kind is known only when the program runs.
 //!
@@ -11,11 +13,15 @@
 //! pointer. Any words are some session or writer, so none can be broken.
 
 use crate::{Head, Ticket};
+use core::ptr;
+use core::sync::atomic::{compiler_fence, Ordering};
 
 /// The answer of a call that writes.
 #[repr(C)]
 #[derive(Clone, Copy, PartialEq, Eq, Debug)]
+#[must_use = "the call may have been refused"]
 pub struct Written {
+    /// 0, or the number that sent the call back.
     pub refused: u32,
     /// Bytes at the start of the output; nothing behind them changes.
     pub bytes: u64,
@@ -24,7 +30,9 @@ pub struct Written {
 /// The answer of a call on a session or writer.
 #[repr(C)]
 #[derive(Clone, Copy, PartialEq, Eq, Debug)]
+#[must_use = "the call may have been refused"]
 pub struct Answer {
+    /// 0, or the number that sent the call back.
     pub refused: u32,
     /// Bytes that this call wrote.
     pub bytes: u64,
@@ -35,8 +43,11 @@ pub struct Answer {
 /// The answer of opening a tape.
 #[repr(C)]
 #[derive(Clone, Copy, PartialEq, Eq, Debug)]
+#[must_use = "the call may have been refused"]
 pub struct Opened {
+    /// 0, or the number that sent the call back.
     pub refused: u32,
+    /// The number of tickets.
     pub tickets: u64,
     /// Total net in kilograms.
     pub net: u64,
@@ -45,38 +56,47 @@ pub struct Opened {
 /// The answer of unpacking a ticket; zeros in place of the ticket where refused.
 #[repr(C)]
 #[derive(Clone, Copy, PartialEq, Eq, Debug)]
+#[must_use = "the call may have been refused"]
 pub struct UnpackedTicket {
+    /// 0, or the number that sent the call back.
     pub refused: u32,
+    /// The ticket.
     pub ticket: Ticket,
 }
 
 /// The answer of unpacking a head; zeros in place of the head where refused.
 #[repr(C)]
 #[derive(Clone, Copy, PartialEq, Eq, Debug)]
+#[must_use = "the call may have been refused"]
 pub struct UnpackedHead {
+    /// 0, or the number that sent the call back.
     pub refused: u32,
+    /// The head.
     pub head: Head,
 }
 
 /// The answer of reading at a position.
 #[repr(C)]
 #[derive(Clone, Copy, PartialEq, Eq, Debug)]
+#[must_use = "the call may have been refused"]
 pub struct Reading {
+    /// 0, or the number that sent the call back.
     pub refused: u32,
     /// 1 at the end, where there is no ticket; else 0.
     pub at_end: u32,
     /// Where the next call goes on.
     pub position: u64,
+    /// The ticket at the position asked for; zeros where there is none.
     pub ticket: Ticket,
 }
 
-/// A session of either kind.
+/// A session of either kind. A drop puts zeros in place of its words.
 #[repr(C)]
 pub struct Session {
     words: [u64; 10],
 }
 
-/// A tape's writer.
+/// A tape's writer. A drop puts zeros in place of its words.
 #[repr(C)]
 pub struct Writer {
     words: [u64; 12],
@@ -110,6 +130,31 @@ extern "C" {
     fn ht_open_tape(key: *const u8, keylen: usize, tape: *const u8, tapelen: usize, out: *mut u8, outlen: usize) -> Opened;
     fn ht_read_ticket(plain: *const u8, plainlen: usize, position: u64) -> Reading;
     fn ht_list_tape(key: *const u8, keylen: usize, tape: *const u8, tapelen: usize, out: *mut u8, outlen: usize) -> Written;
+}
+
+/// Puts zeros in place of words, by writes that the compiler may not leave out although nobody
+/// reads the words afterwards.
+#[inline]
+fn clear(words: &mut [u64]) {
+    for word in words {
+        // SAFETY: a reference may be written through.
+        unsafe { ptr::write_volatile(word, 0) };
+    }
+    compiler_fence(Ordering::SeqCst);
+}
+
+impl Drop for Session {
+    #[inline]
+    fn drop(&mut self) {
+        clear(&mut self.words);
+    }
+}
+
+impl Drop for Writer {
+    #[inline]
+    fn drop(&mut self) {
+        clear(&mut self.words);
+    }
 }
 
 /// Seals a message: ciphertext and then tag. 2, 5, 6.
@@ -152,6 +197,7 @@ pub fn open(key: &[u8], nonce: &[u8], data: &[u8], sealed: &[u8], out: &mut [u8]
 
 impl Session {
     /// A fresh sealing session.
+    #[must_use]
     pub fn fresh_sealing() -> Session {
         let mut session = Session { words: [0; 10] };
         // SAFETY: see the module's text.
@@ -160,6 +206,7 @@ impl Session {
     }
 
     /// A fresh checking session.
+    #[must_use]
     pub fn fresh_checking() -> Session {
         let mut session = Session { words: [0; 10] };
         // SAFETY: see the module's text.
@@ -169,17 +216,18 @@ impl Session {
 
     /// The session's own words. They may change with the library: tests alone should look.
     #[doc(hidden)]
+    #[must_use]
     pub fn words(&self) -> &[u64; 10] {
         &self.words
     }
 
-    /// 1, 2.
+    /// Takes key and nonce. 1, 2.
     pub fn begin(&mut self, key: &[u8], nonce: &[u8]) -> Answer {
         // SAFETY: see the module's text.
         unsafe { ht_session_begin(self, key.as_ptr(), key.len(), nonce.as_ptr(), nonce.len()) }
     }
 
-    /// 1, 5.
+    /// Takes a piece of data. 1, 5.
     pub fn data(&mut self, piece: &[u8]) -> Answer {
         // SAFETY: see the module's text.
         unsafe { ht_session_data(self, piece.as_ptr(), piece.len()) }
@@ -218,25 +266,25 @@ impl Session {
     }
 }
 
-/// 4, 6.
+/// Packs a ticket. 4, 6.
 pub fn pack_ticket(ticket: Ticket, out: &mut [u8]) -> Written {
     // SAFETY: see the module's text.
     unsafe { ht_pack_ticket(ticket, out.as_mut_ptr(), out.len()) }
 }
 
-/// 2, 8.
+/// Unpacks a ticket. 2, 8.
 pub fn unpack_ticket(packed: &[u8]) -> UnpackedTicket {
     // SAFETY: see the module's text.
     unsafe { ht_unpack_ticket(packed.as_ptr(), packed.len()) }
 }
 
-/// 3, 6.
+/// Packs a head. 3, 6.
 pub fn pack_head(head: Head, out: &mut [u8]) -> Written {
     // SAFETY: see the module's text.
     unsafe { ht_pack_head(head, out.as_mut_ptr(), out.len()) }
 }
 
-/// 2, 3.
+/// Unpacks a head. 2, 3.
 pub fn unpack_head(packed: &[u8]) -> UnpackedHead {
     // SAFETY: see the module's text.
     unsafe { ht_unpack_head(packed.as_ptr(), packed.len()) }
@@ -244,6 +292,7 @@ pub fn unpack_head(packed: &[u8]) -> UnpackedHead {
 
 impl Writer {
     /// A fresh writer.
+    #[must_use]
     pub fn fresh() -> Writer {
         let mut writer = Writer { words: [0; 12] };
         // SAFETY: see the module's text.
@@ -253,6 +302,7 @@ impl Writer {
 
     /// The writer's own words. They may change with the library: tests alone should look.
     #[doc(hidden)]
+    #[must_use]
     pub fn words(&self) -> &[u64; 12] {
         &self.words
     }

@@ -5,11 +5,8 @@
 //! messages whole; [`Sealing`] and [`Checking`] take them in pieces. A call that is sent back says
 //! why by a [`Refusal`].
 //!
-//! A key and nonce must serve one message only, and a key and head one tape only: the caller sees
-//! to that.
-//!
 //! ```
-//! use haul_tape::{open_tape, Head, Reader, Refusal, Ticket, Writer, TICKET_BYTES};
+//! use haul_tape::{open_tape, Head, Reader, Refusal, Ticket, Writer};
 //!
 //! let key = [1; 16];
 //! let ticket = Ticket {
@@ -30,16 +27,59 @@
 //! writer.add(ticket, &mut tape[9..])?;
 //! writer.finish(&mut tape[22..])?;
 //!
-//! let mut plain = vec![0; tape.len()];
+//! let mut plain = [0; 25 + 13];
 //! let opened = open_tape(&key, &tape, &mut plain)?;
-//! plain.truncate(TICKET_BYTES * opened.tickets);
-//! for ticket in Reader::new(&plain) {
+//! for ticket in Reader::new(&plain[..opened.bytes()]) {
 //!     assert_eq!(ticket?.truck, 5);
 //! }
 //! # Ok::<(), Refusal>(())
 //! ```
+//!
+//! # Keys and nonces
+//!
+//! A key, nonce or tag is a slice, and a `&[u8; 16]` passes as it is; one that is not 16 bytes is
+//! refused with [`Refusal::Size`]. With the library of its own version no call panics: whatever it is
+//! given, it is done or refused.
+//!
+//! Never use a key and nonce for a second message, nor a key and head, of which the library makes a
+//! tape's nonce, for a second tape: nothing here can notice it.
+//!
+//! # Secrets
+//!
+//! What a session or writer holds is as secret as its key. A close or finish that is done, and a
+//! close that finds another tag, puts zeros in place of the cipher's state; a drop, in whatever
+//! phase, puts zeros in place of all. `Debug` shows none of it.
+//!
+//! Not cleared are: what a move leaves behind, so that a session or writer should lie where it stays
+//! before it takes its key; one that is forgotten ([`core::mem::forget`]); keys, texts and outputs,
+//! which are the caller's; and the stack below a call, of which `include/haul_tape.h` says what may
+//! stay there.
+//!
+//! # Features
+//!
+//! The crate needs `core` alone and has no dependencies. The feature `alloc`, on unless the
+//! dependency says `default-features = false`, adds the calls that answer a `Vec` or `String`:
+//! `message::seal_to_vec`, `message::open_to_vec` and `listing_to_string`. There is no other feature.
+//!
+//! A program without `std` is built with `panic = "abort"` in its profile, or linked with
+//! `--gc-sections`, since `core` as it comes refers to the unwinder.
+//!
+//! # The static library
+//!
+//! `rt staticlib haul_tape` writes it, for x86-64, to `target/staticlib`, where this crate looks for
+//! it unless the environment variable `HAUL_TAPE_LIB_DIR` names another directory, by an absolute path.
+//! It needs `memcpy` and `memset`. `cargo check` and `cargo doc` do without the library.
+//!
+//! # What is proved
+//!
+//! The library is proved. This crate is not: its calls hand pointers and lengths to the library and
+//! turn its numbers into [`Refusal`]s, and they are tested, beside an independent implementation.
 
+#![no_std]
 #![deny(unsafe_code)]
+
+#[cfg(feature = "alloc")]
+extern crate alloc;
 
 mod answers;
 #[allow(unsafe_code)]
@@ -52,7 +92,9 @@ mod ticket;
 
 pub use refusal::Refusal;
 pub use session::{Checking, Done, Sealing};
-pub use tape::{listing, listing_to_string, open_tape, Opened, Reader, Writer};
+#[cfg(feature = "alloc")]
+pub use tape::listing_to_string;
+pub use tape::{listing, open_tape, Opened, Reader, Writer};
 pub use ticket::{Head, Ticket};
 
 /// Bytes of a key.

@@ -8,23 +8,28 @@
 //! use haul_tape::{message, Refusal};
 //!
 //! let (key, nonce) = ([1; 16], [2; 16]);
-//! let mut sealed = message::seal_to_vec(&key, &nonce, b"shift 2", b"face 4 closed")?;
-//! assert_eq!(sealed.len(), 13 + 16);
-//! let text = message::open_to_vec(&key, &nonce, b"shift 2", &sealed)?;
-//! assert_eq!(text, b"face 4 closed");
+//! let mut sealed = [0; 13 + 16];
+//! message::seal(&key, &nonce, b"shift 2", b"face 4 closed", &mut sealed)?;
+//! let mut text = [0; 13];
+//! message::open(&key, &nonce, b"shift 2", &sealed, &mut text)?;
+//! assert_eq!(&text, b"face 4 closed");
 //!
 //! sealed[3] ^= 1;
-//! let answer = message::open_to_vec(&key, &nonce, b"shift 2", &sealed);
+//! let answer = message::open(&key, &nonce, b"shift 2", &sealed, &mut text);
 //! assert_eq!(answer, Err(Refusal::Tag));
 //! # Ok::<(), Refusal>(())
 //! ```
 
-use crate::{exports, Refusal, TAG_BYTES};
+use crate::{exports, Refusal};
+#[cfg(feature = "alloc")]
+use crate::{MOST_BYTES, TAG_BYTES};
+#[cfg(feature = "alloc")]
+use alloc::{vec, vec::Vec};
 
 /// Seals `text` and writes ciphertext and tag at the start of `out`; answers how many bytes they
 /// are, the text's and 16.
 ///
-/// A key and nonce must serve one message only.
+/// Never use a key and nonce for a second message.
 ///
 /// ```
 /// use haul_tape::message;
@@ -34,6 +39,14 @@ use crate::{exports, Refusal, TAG_BYTES};
 /// assert_eq!(out[..3], [0x2B, 0x4B, 0x60]);
 /// # Ok::<(), haul_tape::Refusal>(())
 /// ```
+///
+/// # Errors
+///
+/// The first of these that applies:
+///
+/// - [`Refusal::Size`]: key or nonce is not 16 bytes
+/// - [`Refusal::Limit`]: data or text has more than 65,536 bytes
+/// - [`Refusal::Output`]: `out` is shorter than the text and 16 bytes
 pub fn seal(
     key: &[u8],
     nonce: &[u8],
@@ -44,9 +57,25 @@ pub fn seal(
     exports::seal(key, nonce, data, text, out).into_result()
 }
 
-/// As [`seal`], into a vector of its own.
+/// As [`seal`], into a vector of its own. Needs the feature `alloc`.
+///
+/// ```
+/// use haul_tape::message;
+///
+/// let sealed = message::seal_to_vec(&[1; 16], &[2; 16], b"shift 2", b"face 4 closed")?;
+/// assert_eq!(sealed.len(), 13 + 16);
+/// # Ok::<(), haul_tape::Refusal>(())
+/// ```
+///
+/// # Errors
+///
+/// The first of these that applies:
+///
+/// - [`Refusal::Size`]: key or nonce is not 16 bytes
+/// - [`Refusal::Limit`]: data or text has more than 65,536 bytes
+#[cfg(feature = "alloc")]
 pub fn seal_to_vec(key: &[u8], nonce: &[u8], data: &[u8], text: &[u8]) -> Result<Vec<u8>, Refusal> {
-    let mut sealed = vec![0; text.len() + TAG_BYTES];
+    let mut sealed = vec![0; text.len().min(MOST_BYTES) + TAG_BYTES];
     seal(key, nonce, data, text, &mut sealed)?;
     Ok(sealed)
 }
@@ -55,6 +84,15 @@ pub fn seal_to_vec(key: &[u8], nonce: &[u8], data: &[u8], text: &[u8]) -> Result
 /// `out`; answers how many bytes it has.
 ///
 /// Takes of the stack what the text needs: 3 KiB up to 2,048 bytes, at most 74 KiB.
+///
+/// # Errors
+///
+/// The first of these that applies:
+///
+/// - [`Refusal::Size`]: key or nonce is not 16 bytes, or `sealed` is under 16
+/// - [`Refusal::Limit`]: data has more than 65,536 bytes, or `sealed` more than 65,552
+/// - [`Refusal::Output`]: `out` is shorter than the text
+/// - [`Refusal::Tag`]: the tag differs
 pub fn open(
     key: &[u8],
     nonce: &[u8],
@@ -65,14 +103,32 @@ pub fn open(
     exports::open(key, nonce, data, sealed, out).into_result()
 }
 
-/// As [`open`], into a vector of its own.
+/// As [`open`], into a vector of its own. Needs the feature `alloc`.
+///
+/// ```
+/// use haul_tape::message;
+///
+/// let sealed = message::seal_to_vec(&[1; 16], &[2; 16], b"shift 2", b"face 4 closed")?;
+/// let text = message::open_to_vec(&[1; 16], &[2; 16], b"shift 2", &sealed)?;
+/// assert_eq!(text, b"face 4 closed");
+/// # Ok::<(), haul_tape::Refusal>(())
+/// ```
+///
+/// # Errors
+///
+/// The first of these that applies:
+///
+/// - [`Refusal::Size`]: key or nonce is not 16 bytes, or `sealed` is under 16
+/// - [`Refusal::Limit`]: data has more than 65,536 bytes, or `sealed` more than 65,552
+/// - [`Refusal::Tag`]: the tag differs
+#[cfg(feature = "alloc")]
 pub fn open_to_vec(
     key: &[u8],
     nonce: &[u8],
     data: &[u8],
     sealed: &[u8],
 ) -> Result<Vec<u8>, Refusal> {
-    let mut text = vec![0; sealed.len().saturating_sub(TAG_BYTES)];
+    let mut text = vec![0; sealed.len().saturating_sub(TAG_BYTES).min(MOST_BYTES)];
     open(key, nonce, data, sealed, &mut text)?;
     Ok(text)
 }

@@ -1,10 +1,12 @@
-use std::error::Error;
-use std::fmt;
+use core::error::Error;
+use core::fmt;
 
 /// Why a call was sent back.
 ///
 /// Where several apply, the one with the smallest number is given. A refused call changes nothing,
 /// neither session nor writer nor output; but [`Refusal::Tag`] closes a [`Checking`] session.
+///
+/// Later papers may add numbers, so a `match` needs an arm for the others.
 ///
 /// ```
 /// use haul_tape::{Refusal, Ticket};
@@ -12,7 +14,7 @@ use std::fmt;
 /// let refusal = Ticket::unpack(&[0; 12]).unwrap_err();
 /// assert_eq!(refusal, Refusal::Size);
 /// assert_eq!(refusal.number(), 2);
-/// assert_eq!(refusal.to_string(), "a key, nonce, tag, message, tape or ticket has a wrong size (refusal 2)");
+/// assert_eq!(refusal.to_string(), "a key, nonce, tag, message, tape, ticket or head has a wrong size (refusal 2)");
 /// ```
 ///
 /// [`Checking`]: crate::Checking
@@ -20,7 +22,7 @@ use std::fmt;
 #[non_exhaustive]
 #[repr(u8)]
 pub enum Refusal {
-    /// 1: the call does not fit the phase.
+    /// 1: the call does not fit the phase, or is meant for the other kind of session.
     Phase = 1,
     /// 2: a key, nonce or tag that is not 16 bytes; sealed bytes under 16; a tape that is not
     /// 25 + 13n bytes, or tickets' bytes that are not 13n, with n at most 5,000; a packed ticket
@@ -41,9 +43,35 @@ pub enum Refusal {
 }
 
 impl Refusal {
-    /// The refusal's number, 1 to 8.
-    pub fn number(self) -> u8 {
+    /// The refusal's number.
+    #[must_use]
+    pub const fn number(self) -> u8 {
         self as u8
+    }
+
+    /// The refusal with this number, which an answer of [`exports`](crate::exports) has in its
+    /// field `refused`, and a listing behind `REFUSED`; `None` for 0 and for numbers that there are
+    /// not.
+    ///
+    /// ```
+    /// use haul_tape::Refusal;
+    ///
+    /// assert_eq!(Refusal::from_number(7), Some(Refusal::Tag));
+    /// assert_eq!(Refusal::from_number(0), None);
+    /// ```
+    #[must_use]
+    pub const fn from_number(number: u32) -> Option<Refusal> {
+        Some(match number {
+            1 => Refusal::Phase,
+            2 => Refusal::Size,
+            3 => Refusal::Head,
+            4 => Refusal::Ticket,
+            5 => Refusal::Limit,
+            6 => Refusal::Output,
+            7 => Refusal::Tag,
+            8 => Refusal::Unpack,
+            _ => return None,
+        })
     }
 }
 
@@ -51,7 +79,7 @@ impl fmt::Display for Refusal {
     fn fmt(&self, f: &mut fmt::Formatter<'_>) -> fmt::Result {
         let reason = match self {
             Refusal::Phase => "the call does not fit the phase",
-            Refusal::Size => "a key, nonce, tag, message, tape or ticket has a wrong size",
+            Refusal::Size => "a key, nonce, tag, message, tape, ticket or head has a wrong size",
             Refusal::Head => "a head field is outside its range",
             Refusal::Ticket => "a ticket to be written breaks a rule",
             Refusal::Limit => "there is too much data or text, or a ticket too many",

@@ -1,5 +1,5 @@
 use crate::{exports, Refusal};
-use std::fmt;
+use core::fmt;
 
 /// What an accepted call on a session or writer did.
 #[derive(Clone, Copy, PartialEq, Eq, Debug)]
@@ -13,7 +13,9 @@ pub struct Done {
 /// Seals a message in pieces: [`begin`], [`data`] any number of times, [`text`] any number of
 /// times, [`close`].
 ///
-/// Wherever the pieces are cut, the bytes written are those of [`message::seal`].
+/// Wherever the pieces are cut, the bytes written are those of [`message::seal`]. What the session
+/// holds is as secret as its key, and is cleared by a close or a drop: see
+/// [Secrets](crate#secrets).
 ///
 /// ```
 /// use haul_tape::{message, Sealing};
@@ -29,8 +31,9 @@ pub struct Done {
 /// let done = session.close(&mut sealed[6..])?;
 /// assert_eq!((done.bytes, done.steps), (16, 3_072 + 8 * (7 + 6)));
 ///
-/// let whole = message::seal_to_vec(&key, &nonce, b"shift 2", b"face 4")?;
-/// assert_eq!(sealed[..], whole);
+/// let mut whole = [0; 6 + 16];
+/// message::seal(&key, &nonce, b"shift 2", b"face 4", &mut whole)?;
+/// assert_eq!(sealed, whole);
 /// # Ok::<(), haul_tape::Refusal>(())
 /// ```
 ///
@@ -43,26 +46,56 @@ pub struct Sealing(exports::Session);
 
 impl Sealing {
     /// A fresh session.
+    #[must_use]
     pub fn new() -> Sealing {
         Sealing(exports::Session::fresh_sealing())
     }
 
     /// Takes key and nonce, 16 bytes each. They must serve one message only.
+    ///
+    /// # Errors
+    ///
+    /// The first of these that applies:
+    ///
+    /// - [`Refusal::Phase`]: the session is not fresh
+    /// - [`Refusal::Size`]: key or nonce is not 16 bytes
     pub fn begin(&mut self, key: &[u8], nonce: &[u8]) -> Result<Done, Refusal> {
         self.0.begin(key, nonce).into_result()
     }
 
     /// Takes a piece of data.
+    ///
+    /// # Errors
+    ///
+    /// The first of these that applies:
+    ///
+    /// - [`Refusal::Phase`]: before `begin`, after the first `text`, or after a close
+    /// - [`Refusal::Limit`]: the message would have more than 65,536 bytes of data
     pub fn data(&mut self, piece: &[u8]) -> Result<Done, Refusal> {
         self.0.data(piece).into_result()
     }
 
     /// Takes a piece of text and writes its ciphertext. Ends the data, even with an empty piece.
+    ///
+    /// # Errors
+    ///
+    /// The first of these that applies:
+    ///
+    /// - [`Refusal::Phase`]: before `begin`, or after a close
+    /// - [`Refusal::Limit`]: the message would have more than 65,536 bytes of text
+    /// - [`Refusal::Output`]: `out` is shorter than the piece
     pub fn text(&mut self, piece: &[u8], out: &mut [u8]) -> Result<Done, Refusal> {
         self.0.seal_text(piece, out).into_result()
     }
 
     /// Ends the message and writes the 16 bytes of its tag.
+    ///
+    /// # Errors
+    ///
+    /// The first of these that applies:
+    ///
+    /// - [`Refusal::Phase`]: before `begin`, or after a close
+    /// - [`Refusal::Output`]: `out` is shorter than 16 bytes
     pub fn close(&mut self, out: &mut [u8]) -> Result<Done, Refusal> {
         self.0.seal_close(out).into_result()
     }
@@ -71,11 +104,15 @@ impl Sealing {
 /// Checks the tag of a message in pieces, and gives no text: [`begin`], [`data`] any number of
 /// times, [`text`] with ciphertext any number of times, [`close`] with the tag.
 ///
+/// What the session holds is as secret as its key, and is cleared by a close or a drop: see
+/// [Secrets](crate#secrets).
+///
 /// ```
 /// use haul_tape::{message, Checking, Refusal};
 ///
 /// let (key, nonce) = ([1; 16], [2; 16]);
-/// let sealed = message::seal_to_vec(&key, &nonce, b"shift 2", b"face 4")?;
+/// let mut sealed = [0; 6 + 16];
+/// message::seal(&key, &nonce, b"shift 2", b"face 4", &mut sealed)?;
 /// let check = |tag: &[u8]| {
 ///     let mut session = Checking::new();
 ///     session.begin(&key, &nonce)?;
@@ -96,27 +133,57 @@ pub struct Checking(exports::Session);
 
 impl Checking {
     /// A fresh session.
+    #[must_use]
     pub fn new() -> Checking {
         Checking(exports::Session::fresh_checking())
     }
 
     /// Takes key and nonce, 16 bytes each.
+    ///
+    /// # Errors
+    ///
+    /// The first of these that applies:
+    ///
+    /// - [`Refusal::Phase`]: the session is not fresh
+    /// - [`Refusal::Size`]: key or nonce is not 16 bytes
     pub fn begin(&mut self, key: &[u8], nonce: &[u8]) -> Result<Done, Refusal> {
         self.0.begin(key, nonce).into_result()
     }
 
     /// Takes a piece of data.
+    ///
+    /// # Errors
+    ///
+    /// The first of these that applies:
+    ///
+    /// - [`Refusal::Phase`]: before `begin`, after the first `text`, or after a close
+    /// - [`Refusal::Limit`]: the message would have more than 65,536 bytes of data
     pub fn data(&mut self, piece: &[u8]) -> Result<Done, Refusal> {
         self.0.data(piece).into_result()
     }
 
     /// Takes a piece of ciphertext. Ends the data, even with an empty piece.
+    ///
+    /// # Errors
+    ///
+    /// The first of these that applies:
+    ///
+    /// - [`Refusal::Phase`]: before `begin`, or after a close
+    /// - [`Refusal::Limit`]: the message would have more than 65,536 bytes of text
     pub fn text(&mut self, piece: &[u8]) -> Result<Done, Refusal> {
         self.0.check_text(piece).into_result()
     }
 
     /// Ends the message and compares its tag with the given one. A wrong tag closes the session,
     /// too.
+    ///
+    /// # Errors
+    ///
+    /// The first of these that applies:
+    ///
+    /// - [`Refusal::Phase`]: before `begin`, or after a close
+    /// - [`Refusal::Size`]: the tag is not 16 bytes
+    /// - [`Refusal::Tag`]: the tag differs
     pub fn close(&mut self, tag: &[u8]) -> Result<Done, Refusal> {
         self.0.check_close(tag).into_result()
     }

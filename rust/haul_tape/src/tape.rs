@@ -1,13 +1,19 @@
-use crate::{exports, Done, Head, Refusal, Ticket, MOST_LISTING_BYTES};
-use std::fmt;
-use std::iter::FusedIterator;
+use crate::{exports, Done, Head, Refusal, Ticket, TICKET_BYTES};
+#[cfg(feature = "alloc")]
+use alloc::{string::String, vec};
+use core::fmt;
+use core::iter::FusedIterator;
 
 /// Writes a tape: [`start`] with its head, [`add`] for each ticket, [`finish`].
 ///
 /// Each call writes its part of the tape at the start of its output: 9 bytes, 13 bytes, 16 bytes.
+/// A tape that is given up after `start` has used up its head.
+///
+/// What the writer holds is as secret as its key, and is cleared by a finish or a drop: see
+/// [Secrets](crate#secrets).
 ///
 /// ```
-/// use haul_tape::{listing_to_string, Head, Ticket, Writer};
+/// use haul_tape::{listing, Head, Ticket, Writer};
 ///
 /// let key = [1; 16];
 /// let head = Head { device: 7, shift: 2, sheet: 1 };
@@ -22,7 +28,7 @@ use std::iter::FusedIterator;
 ///     gross: 250_000,
 ///     tare: 110_000,
 /// }];
-/// let mut tape = vec![0; 25 + 13 * tickets.len()];
+/// let mut tape = [0; 25 + 13];
 /// let mut writer = Writer::new();
 /// let mut at = writer.start(&key, head, &mut tape)?.bytes;
 /// for ticket in tickets {
@@ -30,8 +36,10 @@ use std::iter::FusedIterator;
 /// }
 /// writer.finish(&mut tape[at..])?;
 ///
-/// let expected = "TAPE 7 2 1\n1 5 2 3 4 3600 4200 140000\nTOTAL 1 140000\n";
-/// assert_eq!(listing_to_string(&key, &tape), expected);
+/// let mut text = [0; 100];
+/// let bytes = listing(&key, &tape, &mut text)?;
+/// let expected = b"TAPE 7 2 1\n1 5 2 3 4 3600 4200 140000\nTOTAL 1 140000\n";
+/// assert_eq!(&text[..bytes], expected);
 /// # Ok::<(), haul_tape::Refusal>(())
 /// ```
 ///
@@ -42,21 +50,47 @@ pub struct Writer(exports::Writer);
 
 impl Writer {
     /// A fresh writer.
+    #[must_use]
     pub fn new() -> Writer {
         Writer(exports::Writer::fresh())
     }
 
     /// Writes the head. A key, of 16 bytes, and head must serve one tape only.
+    ///
+    /// # Errors
+    ///
+    /// The first of these that applies:
+    ///
+    /// - [`Refusal::Phase`]: the writer is not fresh
+    /// - [`Refusal::Size`]: the key is not 16 bytes
+    /// - [`Refusal::Head`]: a field of the head is outside its range
+    /// - [`Refusal::Output`]: `out` is shorter than 9 bytes
     pub fn start(&mut self, key: &[u8], head: Head, out: &mut [u8]) -> Result<Done, Refusal> {
         self.0.start(key, head, out).into_result()
     }
 
     /// Writes the ciphertext of the packed ticket; there may be 5,000.
+    ///
+    /// # Errors
+    ///
+    /// The first of these that applies:
+    ///
+    /// - [`Refusal::Phase`]: before `start`, or after `finish`
+    /// - [`Refusal::Ticket`]: the ticket breaks a rule
+    /// - [`Refusal::Limit`]: the tape has 5,000 tickets
+    /// - [`Refusal::Output`]: `out` is shorter than 13 bytes
     pub fn add(&mut self, ticket: Ticket, out: &mut [u8]) -> Result<Done, Refusal> {
         self.0.add(ticket, out).into_result()
     }
 
     /// Writes the tag, and ends the tape.
+    ///
+    /// # Errors
+    ///
+    /// The first of these that applies:
+    ///
+    /// - [`Refusal::Phase`]: before `start`, or after `finish`
+    /// - [`Refusal::Output`]: `out` is shorter than 16 bytes
     pub fn finish(&mut self, out: &mut [u8]) -> Result<Done, Refusal> {
         self.0.finish(out).into_result()
     }
@@ -78,9 +112,18 @@ impl fmt::Debug for Writer {
 /// What an opened tape holds.
 #[derive(Clone, Copy, PartialEq, Eq, Debug)]
 pub struct Opened {
+    /// The number of tickets.
     pub tickets: usize,
     /// Gross minus tare, over all tickets, in kilograms.
     pub net: u64,
+}
+
+impl Opened {
+    /// The plain bytes at the start of the output: 13 for each ticket.
+    #[must_use]
+    pub const fn bytes(&self) -> usize {
+        TICKET_BYTES * self.tickets
+    }
 }
 
 /// Opens a tape: writes 13 plain bytes for each ticket at the start of `out`, once the tag is known
@@ -100,10 +143,21 @@ pub struct Opened {
 /// let mut plain = [0; 25];
 /// let opened = open_tape(&[1; 16], &tape, &mut plain)?;
 /// assert_eq!(opened, Opened { tickets: 0, net: 0 });
+/// assert_eq!(opened.bytes(), 0);
 /// assert_eq!(open_tape(&[2; 16], &tape, &mut plain), Err(Refusal::Tag));
 /// assert_eq!(open_tape(&[1; 16], &tape[1..], &mut plain), Err(Refusal::Size));
 /// # Ok::<(), Refusal>(())
 /// ```
+///
+/// # Errors
+///
+/// The first of these that applies:
+///
+/// - [`Refusal::Size`]: the key is not 16 bytes, or the tape is not 25 + 13n with n at most 5,000
+/// - [`Refusal::Head`]: a field of the tape's head is outside its range
+/// - [`Refusal::Output`]: `out` is shorter than 13 bytes for each ticket
+/// - [`Refusal::Tag`]: the tag differs: another key, or a damaged tape
+/// - [`Refusal::Unpack`]: the tag matches, but some 13 bytes are those of no ticket
 pub fn open_tape(key: &[u8], tape: &[u8], out: &mut [u8]) -> Result<Opened, Refusal> {
     exports::open_tape(key, tape, out).into_result()
 }
@@ -126,7 +180,8 @@ pub fn open_tape(key: &[u8], tape: &[u8], out: &mut [u8]) -> Result<Opened, Refu
 /// assert_eq!(reader.next(), None);
 /// # Ok::<(), Refusal>(())
 /// ```
-#[derive(Clone, Debug)]
+#[derive(Clone)]
+#[must_use = "a reader reads only when it is asked for a ticket"]
 pub struct Reader<'a> {
     plain: &'a [u8],
     position: u64,
@@ -144,6 +199,7 @@ impl<'a> Reader<'a> {
     }
 
     /// How many tickets were handed out.
+    #[must_use]
     pub fn position(&self) -> usize {
         self.position as usize
     }
@@ -168,25 +224,45 @@ impl Iterator for Reader<'_> {
 
 impl FusedIterator for Reader<'_> {}
 
+/// Shows the position, and not the tickets.
+impl fmt::Debug for Reader<'_> {
+    fn fmt(&self, f: &mut fmt::Formatter<'_>) -> fmt::Result {
+        f.debug_struct("Reader")
+            .field("position", &self.position)
+            .finish_non_exhaustive()
+    }
+}
+
 /// Writes the listing of a tape at the start of `out`, as ASCII text; answers how many bytes it
 /// has.
 ///
 /// It has a line with device, shift and sheet; a line for each ticket with its position, truck,
 /// shovel, tip point, grade, loaded, tipped and net; and a line with tickets and total net. Of a
-/// tape that does not open it is `REFUSED` and the number. [`MOST_LISTING_BYTES`] are always
-/// enough. Takes 65 KiB of the stack.
+/// tape that does not open it is `REFUSED` and the number, and the call is done.
+/// [`MOST_LISTING_BYTES`](crate::MOST_LISTING_BYTES) are always enough. Takes 65 KiB of the stack.
+///
+/// # Errors
+///
+/// [`Refusal::Output`]: `out` is shorter than the text.
 pub fn listing(key: &[u8], tape: &[u8], out: &mut [u8]) -> Result<usize, Refusal> {
     exports::list_tape(key, tape, out).into_result()
 }
 
-/// As [`listing`], into a string of its own.
+/// As [`listing`], into a string of its own, which has room for every listing at first, 190,054 bytes. Needs the feature `alloc`.
 ///
 /// ```
 /// assert_eq!(haul_tape::listing_to_string(&[1; 16], b"no tape"), "REFUSED 2\n");
 /// ```
+#[cfg(feature = "alloc")]
+#[must_use]
+#[expect(
+    clippy::missing_panics_doc,
+    reason = "the library keeps what is expected"
+)]
 pub fn listing_to_string(key: &[u8], tape: &[u8]) -> String {
-    let mut text = vec![0; MOST_LISTING_BYTES];
+    let mut text = vec![0; crate::MOST_LISTING_BYTES];
     let bytes = listing(key, tape, &mut text).expect("the longest listing fits");
     text.truncate(bytes);
+    text.shrink_to_fit();
     String::from_utf8(text).expect("a listing is ASCII")
 }

@@ -30,28 +30,33 @@ use crate::{exports, Refusal, HEAD_BYTES, TICKET_BYTES};
 #[repr(C)]
 #[derive(Clone, Copy, PartialEq, Eq, Hash, Debug)]
 pub struct Ticket {
-    /// 1.
+    /// The ticket's form, 1.
     pub form: u8,
-    /// 1 to 1,023.
+    /// The truck, 1 to 1,023.
     pub truck: u16,
-    /// 1 to 63.
+    /// The shovel that loaded it, 1 to 63.
     pub shovel: u8,
     /// The tip point, 1 to 63.
     pub tip: u8,
-    /// 0 to 9.
+    /// The grade of what was hauled, 0 to 9.
     pub grade: u8,
-    /// Second of the shift, at most `tipped`.
+    /// When the truck was loaded, in seconds of the shift: at most `tipped`.
     pub loaded: u32,
-    /// Second of the shift, 0 to 43,199.
+    /// When it tipped, in seconds of the shift: at most 43,199.
     pub tipped: u32,
-    /// Kilograms, at most 1,048,575.
+    /// The loaded truck's weight in kilograms, at most 1,048,575.
     pub gross: u32,
-    /// Kilograms, below `gross`.
+    /// The empty truck's weight in kilograms, below `gross`.
     pub tare: u32,
 }
 
 impl Ticket {
     /// The ticket's 13 bytes.
+    ///
+    /// # Errors
+    ///
+    /// [`Refusal::Ticket`]: a field is outside its range, `loaded` is after `tipped`, or `tare` is
+    /// not below `gross`.
     pub fn pack(&self) -> Result<[u8; TICKET_BYTES], Refusal> {
         let mut packed = [0; TICKET_BYTES];
         exports::pack_ticket(*self, &mut packed).into_result()?;
@@ -59,6 +64,13 @@ impl Ticket {
     }
 
     /// The ticket with these 13 bytes.
+    ///
+    /// # Errors
+    ///
+    /// The first of these that applies:
+    ///
+    /// - [`Refusal::Size`]: there are not 13 bytes
+    /// - [`Refusal::Unpack`]: they are those of no ticket
     pub fn unpack(packed: &[u8]) -> Result<Ticket, Refusal> {
         exports::unpack_ticket(packed).into_result()
     }
@@ -79,16 +91,20 @@ impl Ticket {
 #[repr(C)]
 #[derive(Clone, Copy, PartialEq, Eq, Hash, Debug)]
 pub struct Head {
-    /// 1 or more.
+    /// The device that writes the tape, 1 or more.
     pub device: u32,
-    /// 1 to 1,000,000.
+    /// The shift, 1 to 1,000,000.
     pub shift: u32,
-    /// 1 to 1,000,000.
+    /// The sheet, 1 to 1,000,000.
     pub sheet: u32,
 }
 
 impl Head {
     /// The head's 9 bytes.
+    ///
+    /// # Errors
+    ///
+    /// [`Refusal::Head`]: a field is outside its range.
     pub fn pack(&self) -> Result<[u8; HEAD_BYTES], Refusal> {
         let mut packed = [0; HEAD_BYTES];
         exports::pack_head(*self, &mut packed).into_result()?;
@@ -96,6 +112,13 @@ impl Head {
     }
 
     /// The head with these 9 bytes.
+    ///
+    /// # Errors
+    ///
+    /// The first of these that applies:
+    ///
+    /// - [`Refusal::Size`]: there are not 9 bytes
+    /// - [`Refusal::Head`]: a field is outside its range
     pub fn unpack(packed: &[u8]) -> Result<Head, Refusal> {
         exports::unpack_head(packed).into_result()
     }

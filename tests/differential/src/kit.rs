@@ -4,8 +4,12 @@
 
 mod lists;
 mod messages;
+mod openings;
 mod packed;
+mod readings;
 mod tapes;
+
+pub use readings::Readers;
 
 use haul_tape::{Head, Ticket};
 use std::fmt::Display;
@@ -33,8 +37,11 @@ pub fn files() -> Vec<File> {
         messages::refused_messages(),
         packed::packed(),
         lists::calls(),
+        readings::readings(),
     ];
-    files.extend(tapes::tapes());
+    let tapes = tapes::tapes();
+    files.push(openings::openings(&tapes));
+    files.extend(tapes);
     files
 }
 
@@ -49,13 +56,17 @@ pub fn hex(bytes: &[u8]) -> String {
     bytes.iter().map(|byte| format!("{byte:02x}")).collect()
 }
 
-/// The bytes that a field of the kit stands for: hexadecimal, `-`, or `*` and a length.
+/// The bytes that a field of the kit stands for: hexadecimal, `-`, `*` and a length, or a number, `x`
+/// and the bytes that stand so many times in a row.
 pub fn bytes_of(field: &str) -> Vec<u8> {
     if field == "-" {
         return Vec::new();
     }
     if let Some(length) = field.strip_prefix('*') {
         return by_rule(length.parse().expect("a length"));
+    }
+    if let Some((times, bytes)) = field.split_once('x') {
+        return bytes_of(bytes).repeat(times.parse().expect("how many times"));
     }
     assert!(field.len().is_multiple_of(2), "two digits a byte: {field}");
     (0..field.len())

@@ -3,7 +3,7 @@
 use haul_tape::{Head, Ticket};
 use haul_tape_differential::both::{self, Ran};
 use haul_tape_differential::calls::{write_tape, SessionCall, Sessions, WriterCall, Writers};
-use haul_tape_differential::kit::{self, bytes_of};
+use haul_tape_differential::kit::{self, bytes_of, Readers};
 use haul_tape_twin::machine::{Done, Kind};
 use std::fs;
 use std::path::PathBuf;
@@ -198,8 +198,8 @@ fn writer_call(fields: &[String]) -> WriterCall {
     }
 }
 
-/// Sees that a call went as the fields behind its `=` say.
-fn answered(ran: &Ran<Done>, fields: &[String]) {
+/// Sees that a call went as the fields behind its `=` say. `begun` has key and nonce, if any.
+fn answered(ran: &Ran<Done>, fields: &[String], begun: &Option<(Vec<u8>, Vec<u8>)>) {
     match fields[0].as_str() {
         "done" => {
             let done = Done {
@@ -207,10 +207,36 @@ fn answered(ran: &Ran<Done>, fields: &[String]) {
                 steps: number(&fields[2]),
             };
             assert_eq!(ran.answer, Ok(done));
-            assert_eq!(ran.out[..done.bytes], bytes_of(&fields[3]));
+            let written = &ran.out[..done.bytes];
+            if let Some(check) = fields[3].strip_prefix("check:") {
+                let (key, nonce) = begun.as_ref().expect("a session has begun");
+                let tag = both::seal(key, nonce, written, &[], 16).out;
+                assert_eq!(tag, bytes_of(check));
+            } else {
+                assert_eq!(written, bytes_of(&fields[3]));
+            }
         }
         "refused" => assert_eq!(ran.answer, Err(number(&fields[1]))),
         answer => panic!("no answer: {answer}"),
+    }
+}
+
+/// Adds a ticket until the writer has as many as the line says. Each must be done, with 13 bytes and
+/// 104 steps; answers the last.
+fn fill(writers: &mut Writers, fields: &[String]) -> Ran<Done> {
+    let tickets: u64 = number(&fields[1]);
+    let call = WriterCall::Add {
+        ticket: ticket(&fields[2..]),
+        room: 13,
+    };
+    loop {
+        let steps = writers.twin().steps();
+        let ran = writers.call(&call);
+        let done = ran.answer.expect("the writer is filled");
+        assert_eq!((done.bytes, done.steps), (13, steps + 104));
+        if writers.twin().tickets() == tickets {
+            return ran;
+        }
     }
 }
 
@@ -222,6 +248,7 @@ enum List {
 #[test]
 fn calls() {
     let mut list = None;
+    let mut begun = None;
     for fields in lines("calls.txt") {
         if fields[0] == "list" {
             list = Some(match fields[1].as_str() {
@@ -230,16 +257,93 @@ fn calls() {
                 "writer" => List::Writer(Writers::fresh()),
                 kind => panic!("no list: {kind}"),
             });
+            begun = None;
             continue;
         }
-        let equals = fields.iter().position(|field| field == "=").expect("an =");
-        let (call, answer) = (&fields[..equals], &fields[equals + 1..]);
+        let (call, answer) = parted(&fields);
         let ran = match list.as_mut().expect("a list begins the file") {
             List::Session(sessions) => sessions.call(&session_call(call)),
+            List::Writer(writers) if call[0] == "fill" => fill(writers, call),
             List::Writer(writers) => writers.call(&writer_call(call)),
         };
-        answered(&ran, answer);
+        if call[0] == "begin" && ran.answer.is_ok() {
+            begun = Some((bytes_of(&call[1]), bytes_of(&call[2])));
+        }
+        answered(&ran, answer, &begun);
     }
+}
+
+/// The fields before the `=` and those behind it.
+fn parted(fields: &[String]) -> (&[String], &[String]) {
+    let equals = fields.iter().position(|field| field == "=").expect("an =");
+    (&fields[..equals], &fields[equals + 1..])
+}
+
+#[test]
+fn readings() {
+    let lines = lines("readings.txt");
+    let mut tried = 0;
+    for reader in lines.chunk_by(|_, next| next[0] != "reader") {
+        let (first, readings) = reader.split_first().unwrap();
+        assert_eq!(first[0], "reader");
+        let plain = bytes_of(&first[1]);
+        let mut readers = Readers::new(&plain);
+        for fields in readings {
+            let (call, answer) = parted(fields);
+            assert_eq!(call[0], "read");
+            let (position, answer) = answer.split_last().unwrap();
+            let expected = match answer[0].as_str() {
+                "ticket" => Ok(Some(ticket(&answer[1..]))),
+                "end" => Ok(None),
+                "refused" => Err(number(&answer[1])),
+                answer => panic!("no answer: {answer}"),
+            };
+            for _ in 0..number(&call[1]) {
+                assert_eq!(readers.read(), expected, "{fields:?}");
+            }
+            assert_eq!(readers.position(), number(position), "{fields:?}");
+        }
+        tried += 1;
+    }
+    assert!(tried > 10);
+}
+
+#[test]
+fn openings() {
+    for fields in lines("openings.txt") {
+        let (call, answer) = parted(&fields);
+        let [key, tape, room] = call else {
+            panic!("key, tape and room: {fields:?}");
+        };
+        let tape = match tape.ends_with(".tape") {
+            true => read(&format!("tapes/{tape}")),
+            false => bytes_of(tape),
+        };
+        let ran = both::open_tape(&bytes_of(key), &tape, number(room));
+        match answer {
+            [done, n, net, plain] if done == "done" => {
+                assert_eq!(ran.answer, Ok((number(n), number(net))), "{fields:?}");
+                let plain = match plain.ends_with(".txt") {
+                    true => packed_tickets(&format!("tapes/{plain}")),
+                    false => bytes_of(plain),
+                };
+                both::same_bytes("plain bytes", &ran.out[..13 * number::<usize>(n)], &plain);
+            }
+            [refused, expected] if refused == "refused" => {
+                assert_eq!(ran.answer, Err(number(expected)), "{fields:?}");
+            }
+            _ => panic!("no answer: {fields:?}"),
+        }
+    }
+}
+
+/// The packed bytes of all tickets that a file of a tape names.
+fn packed_tickets(name: &str) -> Vec<u8> {
+    lines(name)
+        .iter()
+        .filter(|fields| fields[0] == "ticket")
+        .flat_map(|fields| both::pack_ticket(ticket(&fields[1..]), 13).out)
+        .collect()
 }
 
 #[test]

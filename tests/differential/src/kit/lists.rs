@@ -5,6 +5,8 @@ use super::{GREATEST, HEAD, SMALLEST, TICKET};
 use crate::both::{self, Ran};
 use crate::calls::{SessionCall, Sessions, WriterCall, Writers};
 use crate::random::{turned, Random};
+use haul_tape::Ticket;
+use haul_tape_twin::cipher;
 use haul_tape_twin::machine::{Done, Kind};
 use SessionCall::{Begin, CheckClose, CheckText, Data, SealClose, SealText};
 use WriterCall::{Add, Finish, Start};
@@ -37,10 +39,11 @@ fn writer_line(call: &WriterCall) -> String {
     }
 }
 
-fn answered(ran: &Ran<Done>) -> String {
+/// An answer; `written` is the field of the bytes that the call wrote.
+fn answered(ran: &Ran<Done>, written: impl FnOnce(&[u8]) -> String) -> String {
     match ran.answer {
         Ok(done) => {
-            let out = hex(&ran.out[..done.bytes]);
+            let out = written(&ran.out[..done.bytes]);
             line(&[&"done", &done.bytes, &done.steps, &out])
         }
         Err(number) => line(&[&"refused", &number]),
@@ -58,22 +61,54 @@ impl Lines {
             Kind::Checking => "list checking".to_string(),
         });
         let mut sessions = Sessions::fresh(kind);
+        let mut begun: Option<(&[u8], &[u8])> = None;
         for call in calls {
             let ran = sessions.call(call);
-            self.0
-                .push(format!("{} = {}", session_line(call), answered(&ran)));
+            if let (Begin { key, nonce }, Ok(_)) = (call, &ran.answer) {
+                begun = Some((key, nonce));
+            }
+            // bytes too many to print: the tag of a message that has them as its data
+            let written = |bytes: &[u8]| match begun {
+                Some((key, nonce)) if bytes.len() > 1_000 => {
+                    format!("check:{}", hex(&both::seal(key, nonce, bytes, &[], 16).out))
+                }
+                _ => hex(bytes),
+            };
+            let answer = answered(&ran, written);
+            self.0.push(format!("{} = {answer}", session_line(call)));
         }
     }
 
     fn writer(&mut self, title: &str, calls: &[WriterCall]) {
+        let mut writers = self.fresh_writer(title);
+        self.go_on(&mut writers, calls);
+    }
+
+    fn fresh_writer(&mut self, title: &str) -> Writers {
         self.0.push(format!("\n# {title}"));
         self.0.push("list writer".to_string());
-        let mut writers = Writers::fresh();
+        Writers::fresh()
+    }
+
+    fn go_on(&mut self, writers: &mut Writers, calls: &[WriterCall]) {
         for call in calls {
-            let ran = writers.call(call);
-            self.0
-                .push(format!("{} = {}", writer_line(call), answered(&ran)));
+            let answer = answered(&writers.call(call), hex);
+            self.0.push(format!("{} = {answer}", writer_line(call)));
         }
+    }
+
+    /// Adds a ticket again and again, until the writer has so many, and gives the last answer.
+    fn fill(&mut self, writers: &mut Writers, tickets: u64, ticket: Ticket) {
+        let mut last = None;
+        while writers.twin().tickets() < tickets {
+            let ran = writers.call(&Add { ticket, room: 13 });
+            let steps = 2_120 + 104 * writers.twin().tickets();
+            assert_eq!(ran.answer, Ok(Done { bytes: 13, steps }));
+            last = Some(ran);
+        }
+        let answer = answered(&last.expect("a ticket is added"), hex);
+        let fields = ticket_fields(ticket);
+        self.0.push(format!("fill {tickets} {fields} = {answer}"));
     }
 }
 
@@ -271,6 +306,102 @@ fn sessions(lines: &mut Lines) {
             give(tag),
         ],
     );
+    lines.session(
+        "The same in sealing, in pieces.",
+        Kind::Sealing,
+        &[
+            begin(),
+            data(&head),
+            seal(&most[..65_535]),
+            seal(&[1, 2]),
+            SealText {
+                piece: vec![1],
+                room: 0,
+            },
+            seal(&[1]),
+            seal(&[]),
+            SealText {
+                piece: vec![1],
+                room: 0,
+            },
+            close(),
+        ],
+    );
+    // the tag with which these bytes, as ciphertext, are good
+    let (as_data, as_text) = (
+        [&most[..65_535], &[1]].concat(),
+        [&most[..65_535], &[2]].concat(),
+    );
+    let (_, right) = cipher::open(
+        key[..].try_into().expect("16 bytes"),
+        nonce[..].try_into().expect("16 bytes"),
+        &as_data,
+        &as_text,
+    );
+    lines.session(
+        "As much data and as much text as there may be, in pieces.",
+        Kind::Checking,
+        &[
+            begin(),
+            data(&most[..65_535]),
+            data(&[1, 2]),
+            data(&[1]),
+            data(&[1]),
+            check(&most[..65_535]),
+            check(&[1, 2]),
+            check(&[2]),
+            check(&[1]),
+            give(&right),
+        ],
+    );
+
+    let too_much = super::by_rule(65_537);
+    let much = SealText {
+        piece: too_much.clone(),
+        room: 0,
+    };
+    lines.session(
+        "The smallest of several numbers, sealing.",
+        Kind::Sealing,
+        &[
+            data(&too_much),
+            much.clone(),
+            SealClose { room: 0 },
+            check(&too_much),
+            give(&[]),
+            begin(),
+            Begin {
+                key: vec![],
+                nonce: vec![],
+            },
+            check(&too_much),
+            give(&[]),
+            much.clone(),
+            seal(&[1]),
+            data(&too_much),
+            close(),
+            much,
+            SealClose { room: 0 },
+        ],
+    );
+    lines.session(
+        "The smallest of several numbers, checking.",
+        Kind::Checking,
+        &[
+            check(&too_much),
+            give(&[]),
+            begin(),
+            SealText {
+                piece: too_much.clone(),
+                room: 0,
+            },
+            SealClose { room: 0 },
+            give(&[0; 17]),
+            give(&[0; 16]),
+            give(&[0; 16]),
+            give(&[]),
+        ],
+    );
 }
 
 fn writers(lines: &mut Lines) {
@@ -342,4 +473,45 @@ fn writers(lines: &mut Lines) {
     calls.push(Finish { room: 30 });
     calls.extend([finish(), add(TICKET), start()]);
     lines.writer("Refused calls between those of a tape.", &calls);
+
+    let (broken, no_head) = (broken_tickets()[0], broken_heads()[0]);
+    let add_into = |ticket, room| Add { ticket, room };
+    let bad_start = Start {
+        key: vec![],
+        head: no_head,
+        room: 0,
+    };
+    lines.writer(
+        "1 before all others.",
+        &[
+            add_into(broken, 0),
+            Finish { room: 0 },
+            start(),
+            bad_start.clone(),
+            finish(),
+            bad_start.clone(),
+            add_into(broken, 0),
+            Finish { room: 0 },
+        ],
+    );
+
+    let mut writers = lines.fresh_writer("5,000 tickets. The 5,001st is 5: after 4, and before 6.");
+    lines.go_on(&mut writers, &[start(), add(SMALLEST)]);
+    lines.fill(&mut writers, 4_999, TICKET);
+    lines.go_on(
+        &mut writers,
+        &[
+            add_into(TICKET, 12),
+            add(GREATEST),
+            add(TICKET),
+            add(broken),
+            add_into(broken, 0),
+            add_into(TICKET, 12),
+            add_into(TICKET, 0),
+            bad_start,
+            Finish { room: 15 },
+            finish(),
+            add(TICKET),
+        ],
+    );
 }

@@ -51,7 +51,7 @@ fn refused(name: &str, key: &[u8], tape: Vec<u8>) -> [File; 3] {
 }
 
 /// A tape with these bytes as its head and these as its plain tickets, whatever they are.
-fn sealed(key: &[u8], head: [u8; 9], plain: &[u8]) -> Vec<u8> {
+pub(super) fn sealed(key: &[u8], head: [u8; 9], plain: &[u8]) -> Vec<u8> {
     let sealed = both::seal(key, &nonce_of(&head), &head, plain, plain.len() + 16);
     sealed.answer.expect("the message is sealed");
     [&head, &sealed.out[..]].concat()
@@ -61,7 +61,16 @@ pub(super) fn tapes() -> Vec<File> {
     let mut random = Random::new(7);
     let mut tickets = |n: usize| -> Vec<Ticket> { (0..n).map(|_| random.ticket()).collect() };
     let three = [SMALLEST, TICKET, GREATEST];
-    let (forty, most) = (tickets(40), tickets(5_000));
+    let forty = tickets(40);
+    // heavy, so that their total does not fit in 32 bits
+    let most: Vec<Ticket> = tickets(5_000)
+        .into_iter()
+        .map(|t| Ticket {
+            gross: 1_048_575 - t.gross / 16,
+            tare: t.tare / 16,
+            ..t
+        })
+        .collect();
     let greatest = Head {
         device: u32::MAX,
         shift: 1_000_000,

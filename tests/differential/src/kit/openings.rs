@@ -1,0 +1,120 @@
+//! Tapes opened into rooms of several lengths.
+
+use super::{bytes_of, hex, line, pack_head_anyway, star, tapes, File};
+use super::{GREATEST, HEAD, SMALLEST, TICKET};
+use crate::both::{self, Ran};
+use crate::calls::write_tape;
+use crate::random::turned;
+use haul_tape::Head;
+
+/// An answer; `plain` is the field of the plain bytes.
+fn answered(ran: &Ran<(u64, u64)>, plain: impl FnOnce(&[u8]) -> String) -> String {
+    match ran.answer {
+        Ok((n, net)) => {
+            let plain = plain(&ran.out[..13 * n as usize]);
+            line(&[&"done", &n, &net, &plain])
+        }
+        Err(number) => line(&[&"refused", &number]),
+    }
+}
+
+/// Lines of the file.
+struct Lines(Vec<String>);
+
+impl Lines {
+    fn title(&mut self, title: &str) {
+        self.0.push(format!("\n# {title}"));
+    }
+
+    /// Opens a tape with its key, both as fields, into each of the rooms.
+    fn opened(&mut self, key: &str, tape: &str, rooms: &[usize]) {
+        for &room in rooms {
+            let ran = both::open_tape(&bytes_of(key), &bytes_of(tape), room);
+            let answer = answered(&ran, hex);
+            self.0.push(line(&[&key, &tape, &room, &"=", &answer]));
+        }
+    }
+
+    /// A tape of the kit's directory, too long to be written here, into just enough room and into a
+    /// byte less.
+    fn long(&mut self, name: &str, tapes: &[File]) {
+        let bytes = |ending: &str| {
+            let name = format!("tapes/{name}.{ending}");
+            let file = tapes.iter().find(|file| file.name == name);
+            file.expect("a tape of the kit").bytes.clone()
+        };
+        let tape = bytes("tape");
+        let holds = String::from_utf8(bytes("txt")).expect("text");
+        let key = holds
+            .lines()
+            .next()
+            .and_then(|key| key.strip_prefix("key "));
+        let key = key.expect("a key");
+        for room in [tape.len() - 25, tape.len() - 26] {
+            let ran = both::open_tape(&bytes_of(key), &tape, room);
+            let answer = answered(&ran, |_| format!("{name}.txt"));
+            self.0.push(format!("{key} {name}.tape {room} = {answer}"));
+        }
+    }
+}
+
+pub(super) fn openings(tapes: &[File]) -> File {
+    let mut lines = Lines(vec!["# key tape room = answer".to_string()]);
+    let key: [u8; 16] = std::array::from_fn(|i| i as u8);
+    let head = HEAD.pack().expect("document 01's head packs");
+    let ticket = TICKET.pack().expect("document 01's ticket packs");
+    let bad = turned(&ticket, 8 * 12);
+    let tape_of_none = hex(&write_tape(&key, HEAD, &[]));
+    let tape = write_tape(&key, HEAD, &[TICKET]);
+    let three = hex(&write_tape(&key, HEAD, &[SMALLEST, TICKET, GREATEST]));
+    let wrong_tag = |tape: &[u8]| turned(tape, 8 * tape.len() - 1);
+    let (k, t) = (&hex(&key), &hex(&tape));
+
+    lines.title("No ticket takes no room.");
+    lines.opened(k, &tape_of_none, &[0, 5]);
+    lines.title("Just enough room, and more.");
+    lines.opened(k, t, &[13, 30]);
+    lines.opened(k, &three, &[39]);
+    lines.title("Too little.");
+    lines.opened(k, t, &[12, 0]);
+    lines.opened(k, &three, &[38, 26, 13, 0]);
+    lines.title("5,000 tickets.");
+    lines.long("5000_tickets", tapes);
+
+    lines.title("2 before 3, 6 and 7: the key, then the tape's length.");
+    for length in [0, 15, 17] {
+        let wrong = hex(&[&key[..], &[16]].concat()[..length]);
+        lines.opened(&wrong, t, &[13]);
+    }
+    lines.opened("-", "38x00", &[0]);
+    for length in [0, 24, 26, 37, 39, 65_024, 65_026, 65_038] {
+        lines.opened(k, &star(length), &[65_013, 0]);
+    }
+    lines.opened(k, "37x00", &[0]);
+
+    lines.title("3 before 6 and 7. The tape is rightly sealed, then it is not.");
+    let device_0 = pack_head_anyway(Head { device: 0, ..HEAD }).expect("the head fits its widths");
+    let wrong_head = tapes::sealed(&key, device_0, &ticket);
+    lines.opened(k, &hex(&wrong_head), &[13, 12, 0]);
+    lines.opened(k, &hex(&wrong_tag(&wrong_head)), &[13, 12]);
+    lines.opened(k, "38x00", &[0]);
+
+    lines.title("6 before 7, and 6 before 8.");
+    lines.opened(k, &hex(&wrong_tag(&tape)), &[13, 12, 0]);
+    lines.opened(k, &star(65_025), &[65_000, 64_999]);
+    let bad_ticket = tapes::sealed(&key, head, &bad);
+    lines.opened(k, &hex(&bad_ticket), &[13, 12, 0]);
+
+    lines.title("7 before 8.");
+    lines.opened(k, &hex(&wrong_tag(&bad_ticket)), &[13]);
+    lines.title("8 wherever the bad ticket stands.");
+    for tickets in [
+        [&bad[..], &ticket, &ticket],
+        [&ticket, &bad, &ticket],
+        [&ticket, &ticket, &bad],
+    ] {
+        let tape = tapes::sealed(&key, head, &tickets.concat());
+        lines.opened(k, &hex(&tape), &[39]);
+    }
+    File::text("openings.txt", lines.0)
+}
