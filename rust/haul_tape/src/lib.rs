@@ -61,8 +61,9 @@
 //! dependency says `default-features = false`, adds the calls that answer a `Vec` or `String`:
 //! `message::seal_to_vec`, `message::open_to_vec` and `listing_to_string`. There is no other feature.
 //!
-//! A program without `std` is built with `panic = "abort"` in its profile, or linked with
-//! `--gc-sections`, since `core` as it comes refers to the unwinder.
+//! On Linux `core` as it comes refers to the unwinder. A program without `std` links there when it
+//! is optimized with `panic = "abort"` and `lto = true`; a static library, optimized with
+//! `panic = "abort"`, when the C program is linked with `-Wl,--gc-sections`.
 //!
 //! # The static library
 //!
