@@ -19,12 +19,16 @@
 
 extern char **environ;
 
+/* crates/bench_totals: the total net by the library's own function `totals`, which it does not export; null where it is not linked */
+__attribute__((weak)) uint64_t bench_totals(const uint8_t *plain, size_t plainlen);
+
 enum { MOST = HT_MOST_BYTES, TICKETS = HT_MOST_TICKETS, TAG = HT_TAG_BYTES };
 enum { LIBRARY, C, RUST, MAKERS };
 
 /* ---- what the calls of a row are given, and where they write ---- */
 
 static uint8_t key[16], nonce[16], text[MOST], sealed[MOST + TAG], tape[HT_MOST_TAPE_BYTES], plain[HT_MOST_PLAIN_BYTES];
+static uint8_t second[HT_MOST_PLAIN_BYTES];    /* plain bytes of another tape, with partly the same trucks */
 static ht_ticket tickets[TICKETS];
 static const ht_head head = { 7, 2, 1 };
 static size_t n;                   /* tickets of a tape */
@@ -32,7 +36,8 @@ static size_t textlen, datalen;    /* bytes of a message */
 static size_t each;                /* bytes of a piece */
 static uint8_t out[HT_MOST_LISTING_BYTES], unread[MOST];
 static uint32_t refused;           /* stays 0 while every call is done */
-static uint64_t net;               /* of the tickets, as the last call has it */
+static uint64_t net;               /* of the tickets, as the last call has it; or its numbers of trucks */
+static uint64_t plain_net;         /* of the tickets in the plain bytes */
 
 /* ---- messages ---- */
 
@@ -209,6 +214,41 @@ static void pack_by_library(void)
         refused |= ht_pack_ticket(tickets[i], out + 13 * i, 13).refused;
 }
 
+/* ---- trucks ---- */
+
+#define TRUCKS(maker, of_one, of_two)                                        \
+    static void trucks_by_##maker(void)                                      \
+    {                                                                        \
+        ht_truck_count r = of_one(plain, 13 * n);                            \
+        refused |= r.refused;                                                \
+        net = r.trucks;                                                      \
+    }                                                                        \
+    static void trucks_of_two_by_##maker(void)                               \
+    {                                                                        \
+        ht_truck_counts r = of_two(plain, 13 * n, second, 13 * n);           \
+        refused |= r.refused;                                                \
+        net = (uint64_t)r.both << 40 | (uint64_t)r.either << 20 | r.just_one; \
+    }
+
+TRUCKS(library, ht_trucks, ht_trucks_of_two)
+TRUCKS(c, peer_trucks, peer_trucks_of_two)
+
+/* The same calls where `totals` stands beside them: it has other numbers, and these are held against the peer's. */
+static void trucks_alone_by_library(void)
+{
+    refused |= ht_trucks(plain, 13 * n).refused;
+}
+
+static void trucks_of_two_alone_by_library(void)
+{
+    refused |= ht_trucks_of_two(plain, 13 * n, second, 13 * n).refused;
+}
+
+static void totals_by_library(void)
+{
+    refused |= bench_totals(plain, 13 * n) != plain_net;
+}
+
 /* ---- the table ---- */
 
 /* A call or several, the makers that have it, and the sizes that are timed. A program stands in the library's place; it makes RUNS runs. */
@@ -251,6 +291,12 @@ static const call calls[] = {
     { "ht_read_ticket: tickets, a call for each and one at the end", TAPE, 0, { read_by_library, 0, 0 }, TICKET_GROWTH, 0 },
     { "ht_unpack_ticket: tickets, a call for each", TAPE, 0, { unpack_by_library, 0, 0 }, TICKET_GROWTH, 0 },
     { "ht_pack_ticket: tickets, a call for each", TAPE, 0, { pack_by_library, 0, 0 }, TICKET_GROWTH, 0 },
+    { "ht_trucks: tickets", TAPE, 0, { trucks_by_library, trucks_by_c, 0 }, TICKET_GROWTH, 0 },
+    { "ht_trucks: tickets (in C's place: ticket::totals, over the same bytes)", TAPE, 0,
+        { trucks_alone_by_library, totals_by_library, 0 }, TICKET_GROWTH, 0 },
+    { "ht_trucks_of_two: tickets on each of two tapes", TAPE, 0, { trucks_of_two_by_library, trucks_of_two_by_c, 0 }, TICKET_GROWTH, 0 },
+    { "ht_trucks_of_two: tickets on each of two tapes (in C's place: ticket::totals, over one of them)", TAPE, 0,
+        { trucks_of_two_alone_by_library, totals_by_library, 0 }, TICKET_GROWTH, 0 },
     { "bench_pieces, a Rattle program: bytes of text through a session in pieces of 13 (C by the cipher's parts)", TEXT, 13,
         { 0, session_by_c, 0 }, { 65000 }, "target/bin/bench_pieces" },
     { "bench_tape, a Rattle program: tickets through a writer, their fields set just before their add", TAPE, 0,
@@ -274,10 +320,17 @@ static _Noreturn void fail(const char *what, const char *why)
     exit(1);
 }
 
+/* Another build of the library is timed without the programs and `totals`. */
+static int left_out(const call *c)
+{
+    int totals = c->by[C] == totals_by_library;
+    return (totals && !bench_totals) || ((totals || c->program) && getenv("HAUL_TAPE_LIB"));
+}
+
 static void make_rows(void)
 {
     for (const call *c = calls; c < calls + CALLS; c++)
-        for (size_t i = 0; (i == 0 || c->sizes[i]) && !(c->program && getenv("HAUL_TAPE_LIB")); i++) {
+        for (size_t i = 0; (i == 0 || c->sizes[i]) && !left_out(c); i++) {
             if (all == MOST_ROWS) fail(c->what, "no room");
             rows[all++] = (row){ .call = c, .size = c->sizes[i] };
         }
@@ -289,6 +342,13 @@ static void make_inputs(void)
         text[i] = (uint8_t)(i * 167 + (i >> 8));
     for (int i = 0; i < 16; i++)
         key[i] = (uint8_t)(i * 3 + 1), nonce[i] = (uint8_t)(i * 5 + 2);
+    for (uint32_t i = 0; i < TICKETS; i++) {    /* those of the second tape: odd trucks, to 1,023 */
+        SET_FIELDS(tickets[i], i);
+        tickets[i].truck = (uint16_t)(2 * tickets[i].truck - 1);
+    }
+    n = TICKETS;
+    write_ready_by_c();
+    refused |= peer_open_tape(key, 16, out, 25 + 13 * n, second, sizeof second).refused;
     for (uint32_t i = 0; i < TICKETS; i++)
         SET_FIELDS(tickets[i], i);
 }
@@ -303,10 +363,12 @@ static void prepare(const row *r)
     n = r->call->given == TAPE ? r->size : 0;
     write_ready_by_c();
     memcpy(tape, out, 25 + 13 * n);
-    refused |= peer_open_tape(key, 16, tape, 25 + 13 * n, plain, sizeof plain).refused;
+    ht_opened opened = peer_open_tape(key, 16, tape, 25 + 13 * n, plain, sizeof plain);
+    refused |= opened.refused;
+    plain_net = opened.net;
 }
 
-/* Ends the program where a call is sent back, or where the makers write different bytes or have different totals. */
+/* Ends the program where a call is sent back, or where the makers write different bytes or have different totals or numbers of trucks. */
 static void compare(const row *r)
 {
     static uint8_t first[sizeof out];

@@ -1,16 +1,17 @@
 /* The haul tape library: ACORN-128 v3, haul tickets and shift tapes. Link libhaul_tape.a, which needs the C library's memcpy and
  * memset and no more. It is built for x86-64, and uses SSE registers as the calling convention there has it.
  *
- * Nothing here allocates or keeps anything: sessions and writers are structs of words that the caller places, and every
- * buffer comes with its length. No call reads or writes beyond the lengths given. An output, session or writer must not overlap
+ * Nothing here allocates or keeps anything: sessions, writers and sets of trucks are structs of words that the caller places, and every
+ * buffer comes with its length. No call reads or writes beyond the lengths given. An output, session, writer or set must not overlap
  * anything else that the call is given (so nothing is sealed in place), and a pointer must not be null, not even with length 0.
  * There is no global state: calls on different structs and buffers may run at the same time.
  *
  * Secrets: the words of a session or writer that is not closed are as secret as its key. A close that is done or ends with 7, and a
  * finish that is done, put zeros in place of the cipher's state, so that counts and phase are left; one that is sent back stores
- * nothing. A session or writer that is given up is cleared by setting it fresh. After an opening refused with 7 or 8, or a listing refused with 6, no 8 bytes of the decrypted text in a row are on the
- * stack, nor the whole of a text of 4 to 7; after 8 and after 6 single fields of a ticket and sums may be. A call that is done may
- * leave text there. Every call that runs the cipher may leave words of its state there, and these with the ciphertext give the
+ * nothing. A session or writer that is given up is cleared by setting it fresh. After an opening refused with 7 or 8, or a listing
+ * refused with 6, no 8 bytes of the decrypted text in a row are on the stack, nor the whole of a text of 4 to 7; after 8 and after 6
+ * single fields of a ticket and sums may be. A call that is done may leave text there; a call on opened bytes may leave fields of
+ * tickets and sets of trucks there, done or refused. Every call that runs the cipher may leave words of its state there, and these with the ciphertext give the
  * text: a caller that must not leave them overwrites the stack below the call. In sealing, sessions, the writer, opening and
  * listing no branch and no address depends on the key, the text or the state, but for the verdict on a tag, the rule on a ticket,
  * and what a listing prints. Tested, as built for x86-64.
@@ -158,6 +159,26 @@ ht_reading ht_read_ticket(const uint8_t *plain, size_t plainlen, uint64_t positi
  * tip point, grade, loaded, tipped and net; 'TOTAL', tickets and total net. Of a tape that does not open the text is 'REFUSED' and
  * the number, and the call is done. 6 where the text does not fit. */
 ht_written ht_list_tape(const uint8_t *key, size_t keylen, const uint8_t *tape, size_t tapelen, uint8_t *out, size_t outlen);
+
+/* ---- trucks out on the shift ---- */
+
+/* How many different trucks are on an opened tape; and how many are on both of two opened tapes, on either (on one of them at least),
+ * and on just one. Where the call on two is done, so is the call on each; then either plus both is the first tape's number plus the
+ * second's, and just one plus both is either. */
+typedef struct { uint32_t refused; uint32_t trucks; } ht_truck_count;
+typedef struct { uint32_t refused; uint32_t both; uint32_t either; uint32_t just_one; } ht_truck_counts;
+
+/* An opened tape is what ht_open_tape wrote: 13 bytes for each ticket that it answered, not the whole of the output. Of two tapes 2 is
+ * tried on both before 8. Branches and addresses in these calls depend on the tickets. */
+ht_truck_count ht_trucks(const uint8_t *plain, size_t plainlen);                                                  /* 2, 8 */
+ht_truck_counts ht_trucks_of_two(const uint8_t *first, size_t firstlen, const uint8_t *second, size_t secondlen); /* 2, 8 */
+
+/* A set of trucks: truck k, 1 to 1,023, is in it where words[k / 64] >> (k % 64) & 1 is 1; all other bits are 0. The trucks on at least one
+ * of several tapes are their words combined by |, those on all of them by &; their number is the number of set bits. */
+typedef struct { uint64_t words[16]; } ht_truck_set;
+
+/* Answers as ht_trucks, and writes the set of the trucks on the tape. */
+ht_truck_count ht_truck_set_of(const uint8_t *plain, size_t plainlen, ht_truck_set *set); /* 2, 8 */
 
 #ifdef __cplusplus
 }

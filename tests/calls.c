@@ -1,5 +1,5 @@
-/* Every call of the header: two tickets go onto a tape, the tape is opened and read back, and a message is sealed and checked in pieces.
- * Prints what it read, and ends with 1 where anything is not as it should be.
+/* Every call of the header: two tickets go onto a tape, the tape is opened and read back, a message is sealed and checked in pieces, and
+ * the trucks of tapes are counted. Prints what it read, and ends with 1 where anything is not as it should be.
  */
 #include "haul_tape.h"
 
@@ -14,6 +14,7 @@ static const uint8_t key[HT_KEY_BYTES] = {1, 2, 3, 4, 5, 6, 7, 8, 9, 10, 11, 12,
 _Static_assert(sizeof(ht_ticket) == 24 && offsetof(ht_ticket, truck) == 2 && offsetof(ht_ticket, tip) == 5 && offsetof(ht_ticket, loaded) == 8, "layout");
 _Static_assert(sizeof(ht_head) == 12 && sizeof(ht_answer) == 24 && sizeof(ht_written) == 16 && sizeof(ht_opened) == 24, "layout");
 _Static_assert(sizeof(ht_reading) == 40 && sizeof(ht_unpacked_ticket) == 28 && sizeof(ht_unpacked_head) == 16, "layout");
+_Static_assert(sizeof(ht_truck_count) == 8 && sizeof(ht_truck_counts) == 16 && sizeof(ht_truck_set) == 128, "layout");
 
 static void must(int holds, const char *what)
 {
@@ -88,6 +89,7 @@ static void read_tape(uint8_t *tape, size_t tapelen, ht_head head, const ht_tick
         must(same_ticket(ht_unpack_ticket(packed, sizeof packed).ticket, t), "a ticket unpacks to another");
     }
     must(r.position == n, "the end comes too early");
+    must(ht_trucks(plain, sizeof plain).trucks == n, "the trucks are counted otherwise"); /* each ticket has another */
     printf("%" PRIu64 " tickets, net %" PRIu64 " kg\n", o.tickets, o.net);
 }
 
@@ -146,6 +148,121 @@ static void message(void)
     printf("%zu bytes sealed and checked in %" PRIu64 " steps: %s\n", n, a.steps, (const char *)opened);
 }
 
+/* ---- trucks out on the shift ---- */
+
+/* opened bytes, and the number that they are refused with */
+typedef struct { const uint8_t *plain; size_t bytes; uint32_t refused; } opened_tape;
+
+/* The plain bytes of a ticket for each truck. */
+static opened_tape tape_of(const uint16_t *trucks, size_t n, uint8_t *plain)
+{
+    for (size_t i = 0; i < n; i++) {
+        ht_ticket t = {.form = 1, .truck = trucks[i], .shovel = 2, .tip = 3, .grade = 4,
+            .loaded = 3600, .tipped = 4200, .gross = 250000, .tare = 110000};
+        must(ht_pack_ticket(t, plain + i * HT_TICKET_BYTES, HT_TICKET_BYTES).refused == 0, "a ticket does not pack");
+    }
+    return (opened_tape){plain, n * HT_TICKET_BYTES, 0};
+}
+
+/* One tape. The set is written whole, or where refused left as it was, and no word beside it is written. */
+static ht_truck_set trucks_on(opened_tape t, uint32_t trucks)
+{
+    const uint64_t pattern = 0x5a5a5a5a5a5a5a5a;
+    struct { uint64_t before[2]; ht_truck_set set; uint64_t behind[2]; } placed;
+    uint32_t bits = 0;
+
+    ht_truck_count c = ht_trucks(t.plain, t.bytes);
+    must(c.refused == t.refused && c.trucks == trucks, "ht_trucks answers otherwise");
+    memset(&placed, 0x5a, sizeof placed);
+    c = ht_truck_set_of(t.plain, t.bytes, &placed.set);
+    must(c.refused == t.refused && c.trucks == trucks, "ht_truck_set_of answers otherwise");
+    for (size_t i = 0; i < 2; i++)
+        must(placed.before[i] == pattern && placed.behind[i] == pattern, "a word beside the set is written");
+    for (size_t i = 0; i < 16; i++) {
+        must(t.refused == 0 || placed.set.words[i] == pattern, "a refused call writes a set");
+        for (uint64_t word = placed.set.words[i]; word != 0; word &= word - 1)
+            bits++;
+    }
+    must(t.refused != 0 || bits == trucks, "the set has another number of trucks");
+    return placed.set;
+}
+
+/* Two tapes, in both orders. */
+static void trucks_on_two(opened_tape a, opened_tape b, uint32_t refused, uint32_t both, uint32_t either, uint32_t just_one)
+{
+    for (int turn = 0; turn < 2; turn++) {
+        opened_tape first = turn == 0 ? a : b, second = turn == 0 ? b : a;
+        ht_truck_counts c = ht_trucks_of_two(first.plain, first.bytes, second.plain, second.bytes);
+
+        must(c.refused == refused, "ht_trucks_of_two is refused otherwise");
+        must(c.both == both && c.either == either && c.just_one == just_one, "ht_trucks_of_two answers otherwise");
+    }
+}
+
+static void trucks(void)
+{
+    static const uint16_t first_trucks[7] = {63, 5, 64, 1023, 5, 63, 5}, second_trucks[6] = {1023, 1, 64, 128, 1023, 129};
+    static uint16_t every[1023], many[HT_MOST_TICKETS + 1];
+    static uint8_t first_plain[7 * HT_TICKET_BYTES], second_plain[6 * HT_TICKET_BYTES], every_plain[1023 * HT_TICKET_BYTES];
+    static uint8_t many_plain[HT_MOST_PLAIN_BYTES + HT_TICKET_BYTES], bad_plain[3][3 * HT_TICKET_BYTES], ticket[HT_TICKET_BYTES];
+    const uint64_t last = UINT64_C(1) << 63;
+
+    /* one tape: a truck counts once, however often it hauled */
+    const opened_tape none = {first_plain, 0, 0};
+    const opened_tape first = tape_of(first_trucks, 7, first_plain), second = tape_of(second_trucks, 6, second_plain);
+    const ht_truck_set first_set = {{last | 1 << 5, 1, [15] = last}}, second_set = {{1 << 1, 1, 3, [15] = last}}, no_set = {{0}};
+    ht_truck_set set = trucks_on(first, 4);
+    must(memcmp(&set, &first_set, sizeof set) == 0, "another set");
+    set = trucks_on(second, 5);
+    must(memcmp(&set, &second_set, sizeof set) == 0, "another set");
+    set = trucks_on(none, 0);
+    must(memcmp(&set, &no_set, sizeof set) == 0, "another set");
+
+    /* every truck by itself, and all of them */
+    for (uint16_t k = 1; k <= 1023; k++) {
+        every[k - 1] = k;
+        set = trucks_on(tape_of(&k, 1, ticket), 1);
+        must(set.words[k / 64] == UINT64_C(1) << k % 64, "a truck is another bit");
+    }
+    const opened_tape all = tape_of(every, 1023, every_plain);
+    trucks_on(all, 1023);
+
+    /* two tapes: 64 and 1,023 are on both */
+    trucks_on_two(first, second, 0, 2, 7, 5);
+    trucks_on_two(first, first, 0, 4, 4, 0);
+    trucks_on_two(first, none, 0, 0, 4, 4);
+    trucks_on_two(none, none, 0, 0, 0, 0);
+    trucks_on_two(first, all, 0, 4, 1023, 1019);
+    printf("4 trucks on a tape, 5 on another: 2 on both, 7 on either, 5 on just one\n");
+
+    /* 5,000 tickets are taken, and 5,001 are not */
+    for (size_t i = 0; i < HT_MOST_TICKETS + 1; i++)
+        many[i] = (uint16_t)(1 + i % 700);
+    tape_of(many, HT_MOST_TICKETS + 1, many_plain);
+    const opened_tape most = {many_plain, HT_MOST_PLAIN_BYTES, 0};
+    trucks_on(most, 700);
+    trucks_on_two(most, all, 0, 700, 1023, 323);
+
+    /* wrong lengths, tickets that do not unpack, and both: each with each */
+    for (size_t i = 0; i < 3; i++) {
+        tape_of(first_trucks, 3, bad_plain[i]);
+        bad_plain[i][(i + 1) * HT_TICKET_BYTES - 1] |= 1; /* a spare bit of the first ticket, the second or the third */
+    }
+    const opened_tape refused[] = {
+        {first_plain, 1, 2}, {first_plain, 12, 2}, {first_plain, 14, 2}, {many_plain, HT_MOST_PLAIN_BYTES - 1, 2},
+        {many_plain, HT_MOST_PLAIN_BYTES + 1, 2}, {many_plain, HT_MOST_PLAIN_BYTES + 13, 2}, {bad_plain[0], 38, 2},
+        {bad_plain[0], 39, 8}, {bad_plain[1], 39, 8}, {bad_plain[2], 39, 8},
+    };
+    const size_t n = sizeof refused / sizeof *refused;
+    for (size_t i = 0; i < n; i++) {
+        trucks_on(refused[i], 0);
+        trucks_on_two(refused[i], first, refused[i].refused, 0, 0, 0);
+        trucks_on_two(refused[i], none, refused[i].refused, 0, 0, 0);
+        for (size_t j = 0; j < n; j++)
+            trucks_on_two(refused[i], refused[j], refused[i].refused == 8 ? refused[j].refused : 2, 0, 0, 0);
+    }
+}
+
 int main(void)
 {
     static const ht_ticket tickets[2] = {
@@ -164,5 +281,6 @@ int main(void)
     read_tape(tape, n, head, tickets, 2);
     known_answers();
     message();
+    trucks();
     return 0;
 }

@@ -13,6 +13,9 @@
  * at where the reports stand: none may be an address, and none in the cipher.
  *
  * A call that is refused for lengths, phase or head gives no report. After a close or finish no word depends on a secret.
+ *
+ * Not run are the calls without a key on tickets, heads and opened bytes: packing, unpacking, reading and counting trucks. The header
+ * says of counting trucks that branches and addresses depend on the tickets, and nothing of the others.
  */
 #include "tapes.h"
 

@@ -51,6 +51,9 @@ static const struct { const char *call; size_t upto; size_t bytes; } promises[] 
     {"ht_open_tape", ANY, 66 * 1024},
     {"ht_read_ticket", ANY, 640},
     {"ht_list_tape", ANY, 65 * 1024},
+    {"ht_trucks", ANY, 640},
+    {"ht_trucks_of_two", ANY, 640},
+    {"ht_truck_set_of", ANY, 640},
 };
 
 /* ---- the calls, through a pointer, so that a function that does nothing can stand in their place ---- */
@@ -61,12 +64,14 @@ static function target;
 
 /* what the call is given; lengths that a case does not name are right ones */
 static struct {
-    size_t keylen, noncelen, datalen, textlen, outlen;
+    size_t keylen, noncelen, datalen, textlen, secondlen, outlen;
     const uint8_t *text; /* text, sealed bytes, a piece, a tag, a tape, packed or plain bytes */
+    const uint8_t *second; /* the plain bytes of a second tape */
     ht_session session;
     ht_writer writer;
     ht_ticket ticket;
     ht_head head;
+    ht_truck_set set;
     uint64_t position;
 } given, saved;
 
@@ -79,6 +84,8 @@ static union {
     ht_unpacked_ticket ticket;
     ht_unpacked_head head;
     ht_reading reading;
+    ht_truck_count trucks;
+    ht_truck_counts two;
 } got;
 
 static uint8_t data[HT_MOST_BYTES + 1], out[HT_MOST_LISTING_BYTES];
@@ -91,6 +98,8 @@ NOTHING ht_opened no_opened(void) { return (ht_opened){0, 0, 0}; }
 NOTHING ht_unpacked_ticket no_ticket(void) { return (ht_unpacked_ticket){.refused = 0}; }
 NOTHING ht_unpacked_head no_head(void) { return (ht_unpacked_head){.refused = 0}; }
 NOTHING ht_reading no_reading(void) { return (ht_reading){.refused = 0}; }
+NOTHING ht_truck_count no_trucks(void) { return (ht_truck_count){0, 0}; }
+NOTHING ht_truck_counts no_two(void) { return (ht_truck_counts){0, 0, 0, 0}; }
 
 /* CALL(name, the field of `got`, what stands in its place, its arguments) */
 #define CALL(name, field, nothing, ...) \
@@ -107,6 +116,7 @@ struct call { const char *name; function run, real, nothing; size_t callers; };
 #define NONCE nonce, given.noncelen
 #define DATA data, given.datalen
 #define TEXT given.text, given.textlen
+#define SECOND given.second, given.secondlen
 #define OUT out, given.outlen
 CALL(ht_seal, written, no_written, KEY, NONCE, DATA, TEXT, OUT)
 CALL(ht_open, written, no_written, KEY, NONCE, DATA, TEXT, OUT)
@@ -129,6 +139,9 @@ CALL(ht_writer_finish, answer, no_session, &given.writer, OUT)
 CALL(ht_open_tape, opened, no_opened, KEY, TEXT, OUT)
 CALL(ht_read_ticket, reading, no_reading, TEXT, given.position)
 CALL(ht_list_tape, written, no_written, KEY, TEXT, OUT)
+CALL(ht_trucks, trucks, no_trucks, TEXT)
+CALL(ht_trucks_of_two, two, no_two, TEXT, SECOND)
+CALL(ht_truck_set_of, trucks, no_trucks, TEXT, &given.set)
 
 /* ---- measuring ---- */
 
@@ -268,6 +281,7 @@ static const size_t ticket_counts[] = {0, 1, 2, 3, 19, 20, 39, 40, 41, 78, 79, 1
 
 static uint8_t text[HT_MOST_BYTES + 1], sealed[HT_MOST_BYTES + 1 + HT_TAG_BYTES];
 static uint8_t plain[HT_MOST_PLAIN_BYTES], tape[HT_MOST_TAPE_BYTES + HT_TICKET_BYTES];
+static uint8_t other_plain[HT_MOST_PLAIN_BYTES + HT_TICKET_BYTES];
 
 /* right lengths, no text, a good ticket and head, and room for everything */
 static void usual(void)
@@ -275,7 +289,7 @@ static void usual(void)
     memset(&saved, 0, sizeof saved);
     saved.keylen = sizeof key;
     saved.noncelen = sizeof nonce;
-    saved.text = text;
+    saved.text = saved.second = text;
     saved.outlen = sizeof out;
     saved.head = tape_head;
     saved.ticket = random_ticket();
@@ -476,6 +490,44 @@ static void tapes(void)
     measure(&ht_open_tape_call, HT_MOST_PLAIN_BYTES, 2), measure(&ht_list_tape_call, HT_MOST_PLAIN_BYTES, 0);
 }
 
+/* Counting the trucks of opened bytes: of one tape, and of two in every combination of tickets that unpack and that do not. */
+static void trucks(void)
+{
+    for (size_t i = 0; i < COUNT(ticket_counts); i++) {
+        size_t n = ticket_counts[i], bytes = n * HT_TICKET_BYTES;
+
+        for (enum bad bad = NONE_BAD; bad <= ALL_BAD; bad++) {
+            uint32_t verdict = n > 0 && bad != NONE_BAD ? 8 : 0;
+
+            make_plain(plain, n, bad);
+            usual(), saved.text = plain, saved.textlen = bytes;
+            measure(&ht_trucks_call, ANY, verdict);
+            measure(&ht_truck_set_of_call, ANY, verdict);
+            for (enum bad other = NONE_BAD; other <= ALL_BAD; other++) {
+                make_plain(other_plain, 40, other);
+                usual(), saved.text = plain, saved.textlen = bytes, saved.second = other_plain, saved.secondlen = 40 * HT_TICKET_BYTES;
+                measure(&ht_trucks_of_two_call, ANY, other != NONE_BAD ? 8 : verdict);
+                usual(), saved.text = other_plain, saved.textlen = 40 * HT_TICKET_BYTES, saved.second = plain, saved.secondlen = bytes;
+                measure(&ht_trucks_of_two_call, ANY, other != NONE_BAD ? 8 : verdict);
+            }
+            usual(), saved.text = saved.second = plain, saved.textlen = saved.secondlen = bytes;
+            measure(&ht_trucks_of_two_call, ANY, verdict);
+            saved.secondlen = bytes + 1, saved.second = other_plain;
+            measure(&ht_trucks_of_two_call, ANY, 2);
+            saved.textlen = bytes + 1, saved.text = other_plain;
+            measure(&ht_trucks_of_two_call, ANY, 2);
+            measure(&ht_trucks_call, ANY, 2);
+            measure(&ht_truck_set_of_call, ANY, 2);
+            saved.secondlen = bytes, saved.second = plain;
+            measure(&ht_trucks_of_two_call, ANY, 2);
+        }
+    }
+    usual(), saved.text = saved.second = other_plain, saved.textlen = saved.secondlen = sizeof other_plain;
+    measure(&ht_trucks_call, ANY, 2);
+    measure(&ht_truck_set_of_call, ANY, 2);
+    measure(&ht_trucks_of_two_call, ANY, 2);
+}
+
 static void reads_below(void)
 {
     volatile uint8_t room[20000];
@@ -536,6 +588,7 @@ int main(int argc, char **argv)
     tickets_and_heads();
     writers();
     tapes();
+    trucks();
     if (print_table) {
         printf("%-28s%16s%10s%10s%10s\n", "call", "text length", "changed", "touched", "promised");
         for (size_t i = 0; i < sizeof promises / sizeof *promises; i++)
@@ -546,6 +599,6 @@ int main(int argc, char **argv)
         printf("stack: %d of %d cases take more than is promised\n", faults, cases);
         return 1;
     }
-    printf("stack: %d cases of 21 calls stay within the promised bytes\n", cases);
+    printf("stack: %d cases of 24 calls stay within the promised bytes\n", cases);
     return 0;
 }

@@ -136,3 +136,46 @@ ht_opened peer_open_tape(const uint8_t *key, size_t keylen, const uint8_t *tape,
     if (!totals(out, len, &r)) { memset(out, 0, len); r.refused = 8; }
     return r;
 }
+
+/* ---- trucks ---- */
+
+static int tickets_length(size_t n)
+{
+    return n % 13 == 0 && n <= 65000;
+}
+
+/* a bit for each truck */
+static int truck_set(const uint8_t *p, size_t n, uint64_t *set)
+{
+    for (size_t i = 0; i < n; i += 13) {
+        ht_ticket t;
+        if (!unpack(p + i, &t)) return 0;
+        set[t.truck / 64] |= (uint64_t)1 << t.truck % 64;
+    }
+    return 1;
+}
+
+ht_truck_count peer_trucks(const uint8_t *plain, size_t n)
+{
+    uint64_t set[16] = { 0 };
+    ht_truck_count r = { 0, 0 };
+    if (!tickets_length(n)) { r.refused = 2; return r; }
+    if (!truck_set(plain, n, set)) { r.refused = 8; return r; }
+    for (int i = 0; i < 16; i++)
+        r.trucks += (uint32_t)__builtin_popcountll(set[i]);
+    return r;
+}
+
+ht_truck_counts peer_trucks_of_two(const uint8_t *first, size_t firstlen, const uint8_t *second, size_t secondlen)
+{
+    uint64_t a[16] = { 0 }, b[16] = { 0 };
+    ht_truck_counts r = { 0, 0, 0, 0 };
+    if (!tickets_length(firstlen) || !tickets_length(secondlen)) { r.refused = 2; return r; }
+    if (!truck_set(first, firstlen, a) || !truck_set(second, secondlen, b)) { r.refused = 8; return r; }
+    for (int i = 0; i < 16; i++) {
+        r.both += (uint32_t)__builtin_popcountll(a[i] & b[i]);
+        r.either += (uint32_t)__builtin_popcountll(a[i] | b[i]);
+    }
+    r.just_one = r.either - r.both;
+    return r;
+}

@@ -13,4 +13,6 @@ ht_answer peer_start(peer_writer *w, const uint8_t *key, size_t keylen, ht_head 
 ht_answer peer_add(peer_writer *w, ht_ticket ticket, uint8_t *out, size_t outlen);
 ht_answer peer_finish(peer_writer *w, uint8_t *out, size_t outlen);
 ht_opened peer_open_tape(const uint8_t *key, size_t keylen, const uint8_t *tape, size_t tapelen, uint8_t *out, size_t outlen);
+ht_truck_count peer_trucks(const uint8_t *plain, size_t plainlen);
+ht_truck_counts peer_trucks_of_two(const uint8_t *first, size_t firstlen, const uint8_t *second, size_t secondlen);
 #endif

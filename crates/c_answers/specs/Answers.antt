@@ -5,12 +5,15 @@ use Rattle.tape_model.specs.declared.Ticket.{Ticket}
 use Rattle.tape_model.specs.declared.Head.{Head}
 use Rattle.tape_model.specs.Tape.{Totals}
 use Rattle.tape_model.specs.Reader.{Reading, ticket, atEnd}
+use Rattle.trucks.specs.Trucks.{TrucksOfTwo}
 use Rattle.c_answers.specs.declared.HtAnswer.{HtAnswer}
 use Rattle.c_answers.specs.declared.HtWritten.{HtWritten}
 use Rattle.c_answers.specs.declared.HtOpened.{HtOpened}
 use Rattle.c_answers.specs.declared.HtUnpackedTicket.{HtUnpackedTicket}
 use Rattle.c_answers.specs.declared.HtUnpackedHead.{HtUnpackedHead}
 use Rattle.c_answers.specs.declared.HtReading.{HtReading}
+use Rattle.c_answers.specs.declared.HtTruckCount.{HtTruckCount}
+use Rattle.c_answers.specs.declared.HtTruckCounts.{HtTruckCounts}
 
 -- `refused` is 0 where the call was done; else it is the number, and all that the call would answer is zeros
 
@@ -46,3 +49,11 @@ unfoldable pub readingNumbers : Reply Reading → ℕ → HtReading
 readingNumbers (refused n) position = record { refused = n; «at_end» = 0; position = position; ticket = noTicket }
 readingNumbers (done atEnd) position = record { refused = 0; «at_end» = 1; position = position; ticket = noTicket }
 readingNumbers (done (ticket t)) position = record { refused = 0; «at_end» = 0; position = position; ticket = t }
+
+unfoldable pub countNumbers : Reply ℕ → HtTruckCount
+countNumbers (refused n) = record { refused = n; trucks = 0 }
+countNumbers (done n) = record { refused = 0; trucks = n }
+
+unfoldable pub countsNumbers : Reply TrucksOfTwo → HtTruckCounts
+countsNumbers (refused n) = record { refused = n; both = 0; either = 0; «just_one» = 0 }
+countsNumbers (done n) = record { refused = 0; both = n .both; either = n .either; «just_one» = n .justOne }

@@ -9,12 +9,15 @@ use tape_model::OpenedTape;
 use tape_model::Ticket;
 use tape_model::UnpackedHead;
 use tape_model::UnpackedTicket;
+use trucks::TruckCount;
+use trucks::TruckCounts;
 ghost use mathlib.Core.Path.{_≡_};
 ghost use Rattle.calls.specs.Calls.{answerReply, writtenReply, leftUnchanged};
 ghost use Rattle.tape_model.specs.Ticket.{ticketReply, headReply};
 ghost use Rattle.tape_model.specs.Tape.{openedReply};
 ghost use Rattle.tape_model.specs.Reader.{nextReply};
-ghost use Rattle.c_answers.specs.Answers.{writtenNumbers, answerNumbers, openedNumbers, noTicket, noHead, ticketNumbers, headNumbers, readingNumbers};
+ghost use Rattle.trucks.specs.Words.{countReply, countsReply};
+ghost use Rattle.c_answers.specs.Answers.{writtenNumbers, answerNumbers, openedNumbers, noTicket, noHead, ticketNumbers, headNumbers, readingNumbers, countNumbers, countsNumbers};
 
 #[repr(C)]
 pub struct HtWritten {
@@ -54,6 +57,20 @@ pub struct HtReading {
     pub at_end: u32,
     pub position: u64,
     pub ticket: Ticket,
+}
+
+#[repr(C)]
+pub struct HtTruckCount {
+    pub refused: u32,
+    pub trucks: u32,
+}
+
+#[repr(C)]
+pub struct HtTruckCounts {
+    pub refused: u32,
+    pub both: u32,
+    pub either: u32,
+    pub just_one: u32,
 }
 
 fn wide(number: u8) -> u32
@@ -200,6 +217,37 @@ pub fn reading(read: ReadAt) -> HtReading
             at_end: 1,
             position,
             ticket: no_ticket(),
+        },
+    }
+}
+
+pub fn truck_count(answer: TruckCount) -> HtTruckCount
+    ensures { λ r. ⌜ r ≡ countNumbers (countReply answer) ⌝ }
+{
+    match answer {
+        TruckCount::Refused(n) => HtTruckCount {
+            refused: wide(n),
+            trucks: 0,
+        },
+        TruckCount::Done(trucks) => HtTruckCount { refused: 0, trucks },
+    }
+}
+
+pub fn truck_counts(answer: TruckCounts) -> HtTruckCounts
+    ensures { λ r. ⌜ r ≡ countsNumbers (countsReply answer) ⌝ }
+{
+    match answer {
+        TruckCounts::Refused(n) => HtTruckCounts {
+            refused: wide(n),
+            both: 0,
+            either: 0,
+            just_one: 0,
+        },
+        TruckCounts::Done(both, either, just_one) => HtTruckCounts {
+            refused: 0,
+            both,
+            either,
+            just_one,
         },
     }
 }

@@ -2,7 +2,7 @@
 use mathlib.Core.Bool.{Bool, true, false, not, cond, _&&_}
 use mathlib.Core.List.{List, [], _∷_, _++_}
 use Prim.Native.Nat.{ℕ, zero, suc, _<_}
-use lib.Dec.{eqb, ltb}
+use lib.Dec.{eqb, leb, ltb}
 use lib.ListN.{length, drop, getD}
 use Rattle.calls.specs.declared.Answer.{Answer}
 use Rattle.calls.specs.declared.Answer.the-variants.{Refused, Done}
@@ -38,6 +38,18 @@ writtenReply (WrittenBytes n) = done n
 abbrev pub isRefused : {A : Type 0} → Reply A → Bool
 isRefused (refused n) = true
 isRefused (done a) = false
+
+-- a function of what a call answered; a refusal is passed on
+unfoldable pub mapReply : {A B : Type 0} → (A → B) → Reply A → Reply B
+mapReply f (refused n) = refused n
+mapReply f (done a) = done (f a)
+
+-- a function of what two calls answered; a refusal is passed on, and of two the smaller number
+unfoldable pub mapReplies : {A B C : Type 0} → (A → B → C) → Reply A → Reply B → Reply C
+mapReplies f (refused n) (refused m) = refused (n if leb n m else m)
+mapReplies f (refused n) (done b) = refused n
+mapReplies f (done a) (refused m) = refused m
+mapReplies f (done a) (done b) = done (f a b)
 
 -- ## Refusals
 

@@ -1,9 +1,12 @@
--- From what the library's calls answer to what a C caller sees: a law for calls on words, and one for results.
-use mathlib.Core.Path.{_≡_, ap, sym, _∙_}
+-- From what the library's calls answer to what a C caller sees: a law for calls on words, one for results, and one for the words of a set.
+use mathlib.Core.Path.{_≡_, refl, ap, sym, _∙_}
+use mathlib.Core.Bool.{true, false, false≢true}
 use mathlib.Core.List.{List, []}
 use Prim.Native.Nat.{ℕ}
-use Rattle.calls.specs.Calls.{Reply, Work, Outcome, answerReply, _if_else_, Result, leftUnchanged}
+use Rattle.calls.specs.Calls.{Reply, refused, done, mapReply, isRefused, Work, Outcome, answerReply, _if_else_, Result, leftUnchanged}
 use Rattle.acorn_model.specs.Machine.{Call, call}
+use Rattle.tape_model.specs.declared.Ticket.{Ticket}
+use Rattle.tape_model.specs.Tape.{plainTickets, ofPlain}
 use Rattle.tape_model.specs.Writer.{WriterCall, writerCall}
 use Rattle.session.specs.declared.Session.{Session}
 use Rattle.session.specs.declared.Reply.{Reply as SessionReply}
@@ -14,9 +17,11 @@ use Rattle.tape_writer.specs.declared.WriterReply.{WriterReply}
 use Rattle.tape_writer.specs.Contracts as tape
 use Rattle.tape_writer.specs.Contracts.{writerOf, wrappedWriterOutcome, WriterCalled}
 use Rattle.tape_writer.specs.Words.{writerIn, plainWriterIn, writerWordsFor}
+use Rattle.trucks.specs.Trucks.{truckCount, truckSet, plainTrucks, plainTruckSet}
+use Rattle.trucks.specs.Words.{setWords, setOrEmpty}
 use Rattle.c_answers.specs.declared.HtAnswer.{HtAnswer}
 use Rattle.c_answers.specs.Answers.{answerNumbers}
-use Rattle.haul_tape.specs.Contracts.{wordsAfter, Seen, SessionSeen, WriterSeen, ResultSeen}
+use Rattle.haul_tape.specs.Contracts.{wordsAfter, Seen, SessionSeen, WriterSeen, ResultSeen, setAfter}
 
 -- ## Calls on words
 
@@ -49,3 +54,23 @@ writer-seen words after w c r answer out held called stored told =
 pub result-seen : {A N : Type 0} (numbers : Reply A → N) (result : Result A) (reply : Reply A) (answer : N) (out : List ℕ)
     → (_≡_ {A = Result A} result (record { answer = reply; out = out })) → answer ≡ numbers reply → ResultSeen numbers result answer out
 result-seen numbers result reply answer out comes told = (told ∙ ap (λ x. numbers (x .answer)) (sym comes), ap (λ x. x .out) (sym comes))
+
+-- ## The words of a set of trucks
+
+-- r: what was answered of the plain bytes
+module _ (plain : List ℕ) (r : Reply ℕ) (r-is : r ≡ plainTrucks plain) (words : List ℕ) where
+  pub set-stays : isRefused r ≡ true → words ≡ setAfter (plainTruckSet plain) words
+  unfolding plainTrucks plainTruckSet ofPlain mapReply
+  set-stays h = by (plainTickets plain) (sym (ap isRefused r-is) ∙ h)
+    where
+      by : (q : Reply (List Ticket)) → isRefused (mapReply truckCount q) ≡ true → words ≡ setAfter (mapReply truckSet q) words
+      by (refused n) g = refl
+      by (done ts) g = absurd (false≢true g)
+
+  pub set-written : (found : List ℕ) → isRefused r ≡ false → found ≡ setWords (setOrEmpty (plainTruckSet plain)) → found ≡ setAfter (plainTruckSet plain) words
+  unfolding plainTrucks plainTruckSet ofPlain mapReply
+  set-written found h e = e ∙ by (plainTickets plain) (sym (ap isRefused r-is) ∙ h)
+    where
+      by : (q : Reply (List Ticket)) → isRefused (mapReply truckCount q) ≡ false → setWords (setOrEmpty (mapReply truckSet q)) ≡ setAfter (mapReply truckSet q) words
+      by (refused n) g = absurd (false≢true (sym g))
+      by (done ts) g = refl

@@ -2,7 +2,7 @@
 use mathlib.Core.Path.{_≡_}
 use mathlib.Core.List.{List}
 use Prim.Native.Nat.{ℕ}
-use Rattle.calls.specs.Calls.{_if_else_, Reply, Work, Outcome, Result, leftUnchanged, putInto}
+use Rattle.calls.specs.Calls.{_if_else_, Reply, refused, done, Work, Outcome, Result, leftUnchanged, putInto}
 use Rattle.acorn_model.specs.Machine.{Call, call}
 use Rattle.acorn_model.specs.Message.{sealMessage, openMessage}
 use Rattle.tape_model.specs.declared.Ticket.{Ticket}
@@ -18,10 +18,14 @@ use Rattle.c_answers.specs.declared.HtOpened.{HtOpened}
 use Rattle.c_answers.specs.declared.HtUnpackedTicket.{HtUnpackedTicket}
 use Rattle.c_answers.specs.declared.HtUnpackedHead.{HtUnpackedHead}
 use Rattle.c_answers.specs.declared.HtReading.{HtReading}
-use Rattle.c_answers.specs.Answers.{writtenNumbers, answerNumbers, openedNumbers, ticketNumbers, headNumbers, readingNumbers}
+use Rattle.c_answers.specs.declared.HtTruckCount.{HtTruckCount}
+use Rattle.c_answers.specs.declared.HtTruckCounts.{HtTruckCounts}
+use Rattle.c_answers.specs.Answers.{writtenNumbers, answerNumbers, openedNumbers, ticketNumbers, headNumbers, readingNumbers, countNumbers, countsNumbers}
 use Rattle.reader.specs.Contracts.{readerAt}
 use Rattle.session.specs.Contracts.{wrappedOutcome}
 use Rattle.session.specs.Words.{machineIn, wordsFor}
+use Rattle.trucks.specs.Trucks.{NumberSet, plainTrucks, plainTrucksOfTwo, plainTruckSet}
+use Rattle.trucks.specs.Words.{setWords}
 use Rattle.tape_writer.specs.Contracts.{wrappedWriterOutcome}
 use Rattle.tape_writer.specs.Words.{plainWriterIn, writerWordsFor}
 
@@ -83,3 +87,19 @@ readNumbers o = readingNumbers (o .answer) (o .next .position)
 
 abbrev pub ReadTicketSeen : (plain : List ℕ) (position : ℕ) → HtReading → Type 0
 ReadTicketSeen plain position r = r ≡ readNumbers (readNext (readerAt plain position))
+
+abbrev pub TrucksSeen : List ℕ → HtTruckCount → Type 0
+TrucksSeen plain r = r ≡ countNumbers (plainTrucks plain)
+
+abbrev pub TrucksOfTwoSeen : (first second : List ℕ) → HtTruckCounts → Type 0
+TrucksOfTwoSeen first second r = r ≡ countsNumbers (plainTrucksOfTwo first second)
+
+-- ## The words of a set of trucks
+
+-- the words after a call, by what is found in the bytes: those of the set, or, where the bytes are refused, the words before it
+abbrev pub setAfter : Reply NumberSet → List ℕ → List ℕ
+setAfter (refused n) words = words
+setAfter (done s) words = setWords s
+
+abbrev pub TruckSetSeen : (plain words : List ℕ) → HtTruckCount → List ℕ → Type 0
+TruckSetSeen plain words r after = (r ≡ countNumbers (plainTrucks plain)) × (after ≡ setAfter (plainTruckSet plain) words)

@@ -4,6 +4,8 @@ use acorn_model::Kind;
 use c_answers::HtAnswer;
 use c_answers::HtOpened;
 use c_answers::HtReading;
+use c_answers::HtTruckCount;
+use c_answers::HtTruckCounts;
 use c_answers::HtUnpackedHead;
 use c_answers::HtUnpackedTicket;
 use c_answers::HtWritten;
@@ -11,6 +13,8 @@ use c_answers::answered;
 use c_answers::left_unchanged;
 use c_answers::opened;
 use c_answers::reading;
+use c_answers::truck_count;
+use c_answers::truck_counts;
 use c_answers::unpacked_head;
 use c_answers::unpacked_ticket;
 use c_answers::written;
@@ -31,7 +35,7 @@ ghost use Rattle.session.specs.Words.{wordsFor};
 ghost use Rattle.tape_writer.specs.Contracts as tape;
 ghost use Rattle.tape_writer.specs.Words.{writerWordsFor};
 ghost use Rattle.c_answers.specs.Answers.{answerNumbers};
-ghost use Rattle.haul_tape.specs.Contracts.{wordsAfter, SessionSeen, WriterSeen, SealSeen, OpenSeen, PackTicketSeen, UnpackTicketSeen, PackHeadSeen, UnpackHeadSeen, OpenTapeSeen, ReadTicketSeen, ListTapeSeen};
+ghost use Rattle.haul_tape.specs.Contracts.{wordsAfter, SessionSeen, WriterSeen, SealSeen, OpenSeen, PackTicketSeen, UnpackTicketSeen, PackHeadSeen, UnpackHeadSeen, OpenTapeSeen, ReadTicketSeen, ListTapeSeen, TrucksSeen, TrucksOfTwoSeen, TruckSetSeen};
 
 // ---- whole messages ----
 
@@ -254,4 +258,36 @@ pub extern "C" fn ht_list_tape(key: &[u8], tape: &[u8], out: &mut [u8]) -> HtWri
     ensures { λ r. ⌜ ListTapeSeen (now (key .entry)) (now (tape .entry)) (now (out .entry)) r (now (out .exit)) ⌝ }
 {
     written(listing::list_tape(key, tape, out))
+}
+
+// ---- trucks out on the shift ----
+
+#[no_mangle]
+pub extern "C" fn ht_trucks(plain: &[u8]) -> HtTruckCount
+    ensures { λ r. ⌜ TrucksSeen (now (plain .entry)) r ⌝ }
+{
+    truck_count(trucks::trucks(plain))
+}
+
+#[no_mangle]
+pub extern "C" fn ht_trucks_of_two(first: &[u8], second: &[u8]) -> HtTruckCounts
+    ensures { λ r. ⌜ TrucksOfTwoSeen (now (first .entry)) (now (second .entry)) r ⌝ }
+{
+    truck_counts(trucks::trucks_of_two(first, second))
+}
+
+#[no_mangle]
+pub extern "C" fn ht_truck_set_of(plain: &[u8], set: &mut [u64; 16]) -> HtTruckCount
+    ensures { λ r. ⌜ TruckSetSeen (now (plain .entry)) (now (set .entry)) r (now (set .exit)) ⌝ }
+{
+    let found = trucks::truck_set_of(plain);
+    let answer = found.answer;
+    let told = truck_count(answer);
+    if trucks::is_refused(answer) {
+        return told;
+    }
+    let hauled = found.set;
+    let words = hauled.words;
+    *set = words;
+    told
 }

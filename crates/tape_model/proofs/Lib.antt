@@ -10,6 +10,7 @@ pub mod FieldCases
 pub mod RefusalCases
 pub mod SentBack
 pub mod Unpacking
+pub mod OneByOne
 pub mod Opening
 pub mod Exact
 pub mod Plain

@@ -1,18 +1,21 @@
 -- What opened bytes hold: tickets and their plain bytes give each other back, which number bytes are refused with, and what an opening wrote.
-use mathlib.Core.Path.{_≡_, refl, sym, ap, _∙_}
-use mathlib.Core.Bool.{true, false≢true}
+use mathlib.Core.Path.{_≡_, refl, sym, ap, ap₂, subst, _∙_}
+use mathlib.Core.Bool.{Bool, true, false, _&&_, _||_, false≢true}
+use mathlib.Core.Logic.{_↔_, _⊎_, inl, inr}
 use mathlib.Core.List.{List}
 use Prim.Native.Nat.{ℕ, _*_, _/_, _≤_}
 use native.Mathlib.Omega.{arith}
-use lib.ListN.{length, take}
-use Rattle.calls.specs.Calls.{AreBytes, Reply, refused, done, isRefused}
+use lib.ListN.{length, take, drop}
+use lib.Seq.{take-at}
+use Rattle.calls.specs.Calls.{AreBytes, Reply, refused, done, mapReply, mapReplies, isRefused, writtenOver}
 use Rattle.tape_model.specs.declared.Ticket.{Ticket}
+use Rattle.tape_model.specs.declared.Head.{Head}
 use Rattle.tape_model.specs.Ticket.{ticketLength}
-use Rattle.tape_model.specs.Tape.{isTicketsLength, ticketLimit, packTickets, unpackTickets, plainTickets, ticketsIn, Totals, totalsOf, plainTotals, ticketCount, plainBytes, openTapeRefusal, openTape}
-use Rattle.tape_model.specs.Laws.{Valid, PlainLaws}
+use Rattle.tape_model.specs.Tape.{isTicketsLength, ticketLimit, packTickets, unpackTickets, plainTickets, ticketsIn, Totals, totalsOf, ofPlain, ofTwoPlain, plainTotals, ticketCount, plainBytes, openTapeRefusal, openTape}
+use Rattle.tape_model.specs.Laws.{Valid, OpensAs, PlainLaws, OfPlainLaws, OfTwoPlainLaws}
 use Rattle.tape_model.proofs.Unpacking.{unpacked-count, told, sized-hold, wrong-hold, held-unpack, held-few, refused-size, only-2, only-8}
 use Rattle.tape_model.proofs.Opening.{tickets-good, plain-count, plain-sized, was-accepted, count-is, net-is, front}
-use Rattle.tape_model.proofs.Tapes.{tickets-held}
+use Rattle.tape_model.proofs.Tapes.{tickets-length, tickets-held}
 use Rattle.tape_model.proofs.Exact.{packed-again}
 
 held : (string : List ℕ) (tickets : List Ticket) → AreBytes string → plainTickets string ≡ done tickets
@@ -52,8 +55,8 @@ module _ (key tape out : List ℕ) (k : Totals) (after : List ℕ) (e : openTape
   opened-many = plain-many key tape out accepted ∙ sym (count-is key tape out k after e)
 
   opened : plainTotals (take (ticketLength * k .tickets) after) ≡ done k
-  unfolding plainTotals totalsOf
-  opened = ap totalsOf opened-held ∙ (λ i. done (record { tickets = opened-many i; net = sym (net-is key tape out k after e) i }))
+  unfolding plainTotals ofPlain mapReply
+  opened = ap (mapReply totalsOf) opened-held ∙ (λ i. done (record { tickets = opened-many i; net = sym (net-is key tape out k after e) i }))
 
 -- bytes of a right length in which a ticket does not unpack
 by-8 : (s : List ℕ) → isTicketsLength (length s) ≡ true → (r : Reply (List Ticket)) → unpackTickets (length s / ticketLength) s ≡ r → isRefused r ≡ true → plainTickets s ≡ refused 8
@@ -71,3 +74,93 @@ plain-laws =
       no-other = only-8;
       opened = opened;
     }
+
+-- ## Functions of the tickets
+
+-- opened bytes are of a wrong length, or hold a ticket that does not unpack, or hold tickets
+three : (P : Reply (List Ticket) → Bool → Type 0) → P (refused 2) false → P (refused 8) true → ((ts : List Ticket) → P (done ts) true)
+    → (s : List ℕ) → P (plainTickets s) (isTicketsLength (length s))
+three P wrong bad good s = by (isTicketsLength (length s)) (plainTickets s) refl refl
+  where
+    by : (b : Bool) (r : Reply (List Ticket)) → isTicketsLength (length s) ≡ b → plainTickets s ≡ r → P r b
+    by false r h e = subst (λ (x : Reply (List Ticket)). P x false) (sym (wrong-hold s h) ∙ e) wrong
+    by true (refused n) h e = subst (λ (m : ℕ). P (refused m) true) (sym (only-8 s n e h)) bad
+    by true (done ts) h e = good ts
+
+-- their numbers are from 2 on
+pub two-or-more : (s : List ℕ) (n : ℕ) → plainTickets s ≡ refused n → 2 ≤ n
+two-or-more =
+    three (λ r b. (n : ℕ) → r ≡ refused n → 2 ≤ n) (λ n e. let same : _≡_ {A = ℕ} 2 n = cc in omega arith) (λ n e. let same : _≡_ {A = ℕ} 8 n = cc in omega arith)
+    (λ ts n e. absurd (let z : _≡_ {A = ℕ} 0 1 = cc in omega arith))
+
+module _ {A : Type 0} (f : List Ticket → A) where
+  one-refused : (string : List ℕ) (n : ℕ) → (ofPlain f string ≡ refused n) ↔ (plainTickets string ≡ refused n)
+  unfolding ofPlain mapReply
+  one-refused string n = by (plainTickets string)
+    where
+      by : (r : Reply (List Ticket)) → (mapReply f r ≡ refused n) ↔ (r ≡ refused n)
+      by (refused m) = (λ e. let same : m ≡ n = cc in ap refused same, λ e. let same : m ≡ n = cc in ap refused same)
+      by (done ts) = (λ e. absurd (let z : _≡_ {A = ℕ} 0 1 = cc in omega arith), λ e. absurd (let z : _≡_ {A = ℕ} 0 1 = cc in omega arith))
+
+  of-opened : (key tape out : List ℕ) (totals : Totals) (after : List ℕ) (head : Head) (tickets : List Ticket) → OpensAs key tape out totals after head tickets
+      → ofPlain f (take (ticketLength * totals .tickets) after) ≡ done (f tickets)
+  unfolding ofPlain mapReply writtenOver
+  of-opened key tape out totals after head tickets o =
+      let many : ticketLength * totals .tickets ≡ length (packTickets tickets) =
+      ap (λ (k : Totals). ticketLength * k .tickets) (o .answered) ∙ sym (tickets-length tickets) in
+      let front : take (ticketLength * totals .tickets) after ≡ packTickets tickets =
+      ap (take (ticketLength * totals .tickets)) (o .written) ∙ take-at (packTickets tickets) (drop (length (packTickets tickets)) out) (ticketLength * totals .tickets) (sym many) in
+      ap (λ (s : List ℕ). mapReply f (plainTickets s)) front ∙ ap (mapReply f) (tickets-held tickets (o .valid) (o .few))
+
+  pub of-plain-laws : OfPlainLaws f
+  unfolding ofPlain mapReply
+  of-plain-laws = record { answered = λ string tickets e. ap (mapReply f) e; number = one-refused; opened = of-opened }
+
+module _ {A : Type 0} (f : List Ticket → List Ticket → A) where
+  -- which number a reply has, by whether lengths are right and whether one of the tapes is refused
+  abbrev Numbered : Reply A → Bool → Bool → Type 0
+  Numbered x lengths refusals =
+      ((x ≡ refused 2) ↔ (lengths ≡ false)) × ((x ≡ refused 8) ↔ ((lengths ≡ true) × (refusals ≡ true)))
+      × ((n : ℕ) → x ≡ refused n → (n ≡ 2) ⊎ (n ≡ 8))
+
+  by-two : (refusals : Bool) → Numbered (refused 2) false refusals
+  by-two refusals = (
+    (λ e. refl, λ e. refl),
+    (λ e. absurd (let z : _≡_ {A = ℕ} 2 8 = cc in omega arith), λ e. absurd (false≢true (e .0))),
+    λ n e. inl (let same : _≡_ {A = ℕ} 2 n = cc in sym same),
+  )
+
+  by-eight : Numbered (refused 8) true true
+  by-eight = (
+    (λ e. absurd (let z : _≡_ {A = ℕ} 8 2 = cc in omega arith), λ e. absurd (false≢true (sym e))),
+    (λ e. (refl, refl), λ e. refl),
+    λ n e. inr (let same : _≡_ {A = ℕ} 8 n = cc in sym same),
+  )
+
+  by-none : (a : A) → Numbered (done a) true false
+  by-none a = (
+    (λ e. absurd (let z : _≡_ {A = ℕ} 0 1 = cc in omega arith), λ e. absurd (false≢true (sym e))),
+    (λ e. absurd (let z : _≡_ {A = ℕ} 0 1 = cc in omega arith), λ e. absurd (false≢true (e .1))),
+    λ n e. absurd (let z : _≡_ {A = ℕ} 0 1 = cc in omega arith),
+  )
+
+  numbered : (first second : List ℕ)
+      → Numbered (ofTwoPlain f first second) (isTicketsLength (length first) && isTicketsLength (length second))
+      (isRefused (plainTickets first) || isRefused (plainTickets second))
+  unfolding ofTwoPlain mapReplies
+  numbered first second =
+      three (λ r b. Numbered (mapReplies f r (plainTickets second)) (b && isTicketsLength (length second)) (isRefused r || isRefused (plainTickets second)))
+      (three (λ r b. Numbered (mapReplies f (refused 2) r) (false && b) true) (by-two true) (by-two true) (λ us. by-two true) second)
+      (three (λ r b. Numbered (mapReplies f (refused 8) r) (true && b) true) (by-two true) by-eight (λ us. by-eight) second)
+      (λ ts. three (λ r b. Numbered (mapReplies f (done ts) r) (true && b) (isRefused r)) (by-two true) by-eight (λ us. by-none (f ts us)) second)
+      first
+
+  pub of-two-plain-laws : OfTwoPlainLaws f
+  unfolding ofTwoPlain mapReplies
+  of-two-plain-laws =
+      record {
+        answered = λ first second ts us e h. ap₂ (mapReplies f) e h;
+        two = λ first second. numbered first second .0;
+        eight = λ first second. numbered first second .1;
+        no-other = λ first second. numbered first second .2;
+      }

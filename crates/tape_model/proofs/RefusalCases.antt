@@ -4,11 +4,11 @@ use mathlib.Core.Bool.{Bool, true, _&&_, Bool·beq}
 use mathlib.Core.List.{List, [], _∷_}
 use lib.Dec.{eqb}
 use borrow.Author.Tests.{eqb-true}
-use Rattle.calls.specs.Calls.{unlessRefused, resultOf}
+use Rattle.calls.specs.Calls.{mapReply, unlessRefused, resultOf}
 use Rattle.calls.proofs.Choices.{both}
 use Rattle.acorn_model.proofs.StepCases.{same}
 use Rattle.tape_model.specs.Ticket.{ordered, valuesRule, ticketRule, packTicket, unpackTicket, packTicketInto, headRule, packHead, unpackHead, packHeadInto}
-use Rattle.tape_model.specs.Tape.{isTicketsLength, unpackTickets, plainTickets, totalsOf, plainTotals, isTapeLength, openTapeRefusal}
+use Rattle.tape_model.specs.Tape.{isTicketsLength, unpackTickets, plainTickets, ofPlain, plainTotals, isTapeLength, openTapeRefusal}
 use Rattle.tape_model.specs.Writer.{phaseAllows, keyRight, headRight, ticketRight, tapeFull, outputShort, refusal}
 use Rattle.tape_model.specs.Reader.{handedOut, readNext}
 use Rattle.tape_model.specs.RefusalCases.{writerWith, RefusalCase, writes, opens, sizes, Gets, AllGet, tapeRefusalCases, ReaderCases, PackingCases}
@@ -36,7 +36,7 @@ unfolding refusal phaseAllows keyRight headRight ticketRight tapeFull outputShor
 refusal-cases = shown-all tapeRefusalCases refl
 
 pub reader-cases : ReaderCases
-unfolding readNext handedOut plainTotals totalsOf plainTickets unpackTickets isTicketsLength unpackTicket unlessRefused packTicket valuesRule ordered
+unfolding readNext handedOut plainTotals ofPlain mapReply plainTickets unpackTickets isTicketsLength unpackTicket unlessRefused packTicket valuesRule ordered
 reader-cases = record { too-short = refl; not-whole = refl; bad = refl; bad-first = refl; bad-second = refl; no-totals = (refl, refl) }
 
 pub packing-cases : PackingCases

@@ -8,7 +8,7 @@ use lib.Dec.{ltb, eqb}
 use lib.ListN.{length, take, drop, replicate, length-append, length-replicate}
 use lib.Seq.{take-at, drop-at, drop-drop}
 use borrow.Author.Tests.{le-leb, lt-leb, le-ltb, eq-eqb}
-use Rattle.calls.specs.Calls.{AreBytes, _if_else_, refused, Reply, done, accepted, unlessRefused, writtenOver, resultOf, isRefused}
+use Rattle.calls.specs.Calls.{AreBytes, _if_else_, refused, Reply, done, mapReply, accepted, unlessRefused, writtenOver, resultOf, isRefused}
 use Rattle.acorn_model.specs.Machine.{keyLength, nonceLength}
 use Rattle.acorn_model.specs.Message.{sealed, tagMatches, opened}
 use Rattle.calls.proofs.AreBytes.{append-are-bytes}
@@ -18,7 +18,7 @@ use Rattle.tape_model.specs.declared.Ticket.{Ticket}
 use Rattle.tape_model.specs.declared.Head.{Head}
 use Rattle.tape_model.specs.Format.{widths}
 use Rattle.tape_model.specs.Ticket.{formatOf, ticketLength, ordered, valuesRule, ticketRule, packTicket, unpackTicket, headLength, headRule, packHead, unpackHead}
-use Rattle.tape_model.specs.Tape.{ticketLimit, nonceOf, packTickets, tapeOf, isTicketsLength, ticketThen, unpackTickets, plainTickets, ticketsIn, totalNet, totalsOf, plainTotals, emptyTapeLength, isTapeLength, headBytes, sealedBytes, ticketCount, plainBytes, openTapeRefusal, openTape}
+use Rattle.tape_model.specs.Tape.{ticketLimit, nonceOf, packTickets, tapeOf, isTicketsLength, ticketThen, unpackTickets, plainTickets, ticketsIn, totalNet, totalsOf, ofPlain, plainTotals, emptyTapeLength, isTapeLength, headBytes, sealedBytes, ticketCount, plainBytes, openTapeRefusal, openTape}
 use Rattle.tape_model.specs.Reader.{ticket, atEnd, Reader, readerOver, readNext, stays, handedOut}
 use Rattle.tape_model.specs.Listing.{headLine, ticketLines, lineOfTotals, totalLine, listed, listingUnless, listing, printed}
 use Rattle.tape_model.specs.Laws.{Valid, readings, readerAfter, asReadings, TapeLaws, TapesComeBack, tapeWithText, BadTickets}
@@ -222,8 +222,8 @@ module _ (key : List ℕ) (head : Head) (ts : List Ticket) (k : length key ≡ k
       }
 
   totals : plainTotals (packTickets ts) ≡ done (record { tickets = length ts; net = totalNet ts })
-  unfolding plainTotals totalsOf
-  totals = ap totalsOf (tickets-held ts v n)
+  unfolding plainTotals ofPlain mapReply
+  totals = ap (mapReply totalsOf) (tickets-held ts v n)
 
   lists : printed (key ++ tape) ≡ headLine head ++ ticketLines 1 ts ++ lineOfTotals (length ts) (totalNet ts)
   unfolding printed listing listingUnless listed totalLine

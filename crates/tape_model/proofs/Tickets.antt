@@ -125,6 +125,17 @@ ticket-told s t e =
     let p = unpack-passed 7 (eqb (length s) ticketLength) (valuesRule (ticketValuesIn s)) (ticketOf (ticketValuesIn s)) t e in
     (eqb-true (length s) ticketLength (p .0), p .1, p .2)
 
+-- a truck is 1 to 1,023
+pub valid-truck : (t : Ticket) → ticketRule t ≡ true → (1 ≤ t .truck) × (t .truck ≤ 1023)
+valid-truck t h = ticket-rule t h .0 .1 .0
+
+pub truck-range : (s : List ℕ) (t : Ticket) → unpackTicket s ≡ done t → (1 ≤ t .truck) × (t .truck ≤ 1023)
+truck-range s t e =
+    let p = ticket-told s t e in
+    let r = ranges-of (ticketValuesIn s) (p .1) in
+    let same : getD (ticketValuesIn s) 1 0 ≡ t .truck = ap (λ (u : Ticket). u .truck) (p .2) in
+    (omega (arith, r .1 .0 .0), omega (arith, r .1 .0 .1))
+
 pub head-told : (s : List ℕ) (h : Head) → unpackHead s ≡ done h → (length s ≡ headLength) × InRanges headFormat (headValuesIn s) × (headOf (headValuesIn s) ≡ h)
 unfolding unpackHead
 head-told s h e =

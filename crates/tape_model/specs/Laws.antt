@@ -1,8 +1,8 @@
 -- What is shown of the definitions on tickets, heads, tapes, the reader and the listing: the statements, to be read without their proofs.
 use mathlib.Core.Path.{_≡_}
-use mathlib.Core.Bool.{Bool, true, false}
+use mathlib.Core.Bool.{Bool, true, false, _&&_, _||_}
 use mathlib.Core.List.{List, [], _∷_, _++_}
-use mathlib.Core.Logic.{_↔_}
+use mathlib.Core.Logic.{_↔_, _⊎_}
 use Prim.Native.Nat.{ℕ, zero, suc, _+_, _-_, _*_, _/_, _^_, _≤_, _<_}
 use lib.ListN.{length, getD, replicate, take}
 use Rattle.calls.specs.Calls.{isRefused, AreBytes, Reply, refused, done, writtenOver}
@@ -13,7 +13,7 @@ use Rattle.tape_model.specs.declared.Ticket.{Ticket}
 use Rattle.tape_model.specs.declared.Head.{Head}
 use Rattle.tape_model.specs.Format.{totalWidth, widths, join, cut, Fit, byteWidths, pack, bitString, unpack}
 use Rattle.tape_model.specs.Ticket.{ticketLength, ticketValues, ticketRule, packTicket, unpackTicket, headFormat, headValues, headRule, packHead, unpackHead, writeRule, formatOf, formIn, headValuesIn}
-use Rattle.tape_model.specs.Tape.{unpackTickets, ticketLimit, nonceOf, packTickets, tapeOf, isTicketsLength, totalNet, Totals, plainTotals, openTapeRefusal, openTape, plainTickets}
+use Rattle.tape_model.specs.Tape.{unpackTickets, ticketLimit, nonceOf, packTickets, tapeOf, isTicketsLength, totalNet, Totals, plainTotals, openTapeRefusal, openTape, plainTickets, ofPlain, ofTwoPlain}
 use Rattle.tape_model.specs.Writer.{PlainWriter, WriterCall, start, add, finish, refusal, writerCall}
 use Rattle.tape_model.specs.Reader.{Reading, ticket, atEnd, Reader, readerOver, readNext}
 use Rattle.tape_model.specs.Listing.{decimal, headLine, ticketLines, lineOfTotals, totalLine, refusedLine, listed, listing, printed, exampleText, secondTicket, twoTicketsText, refusedText}
@@ -146,6 +146,27 @@ pub record PlainLaws : Type 0 where
   -- the bytes that an opening wrote hold tickets of the totals that it answered
   pub opened : (key tape out : List ℕ) (totals : Totals) (after : List ℕ) → openTape key tape out ≡ record { answer = done totals; out = after }
       → plainTotals (take (ticketLength * totals .tickets) after) ≡ done totals
+
+-- any function of the tickets that opened bytes hold: it is answered of them, and a refusal is passed on
+pub record OfPlainLaws {A : Type 0} (f : List Ticket → A) : Type 0 where
+  pub answered : (string : List ℕ) (tickets : List Ticket) → plainTickets string ≡ done tickets → ofPlain f string ≡ done (f tickets)
+  pub number : (string : List ℕ) (n : ℕ) → (ofPlain f string ≡ refused n) ↔ (plainTickets string ≡ refused n)
+  -- of the bytes that an opening wrote it is answered of the tape's tickets
+  pub opened : (key tape out : List ℕ) (totals : Totals) (after : List ℕ) (head : Head) (tickets : List Ticket) → OpensAs key tape out totals after head tickets
+      → ofPlain f (take (ticketLength * totals .tickets) after) ≡ done (f tickets)
+
+-- and any function of the tickets of two opened tapes
+pub record OfTwoPlainLaws {A : Type 0} (f : List Ticket → List Ticket → A) : Type 0 where
+  pub answered : (first second : List ℕ) (ts us : List Ticket) → plainTickets first ≡ done ts → plainTickets second ≡ done us
+      → ofTwoPlain f first second ≡ done (f ts us)
+  -- 2 exactly where one of the lengths is wrong; 8 exactly where both are right and a ticket of one of the tapes does not unpack
+  pub two : (first second : List ℕ) → (ofTwoPlain f first second ≡ refused 2)
+      ↔ ((isTicketsLength (length first) && isTicketsLength (length second)) ≡ false)
+  pub eight : (first second : List ℕ) → (ofTwoPlain f first second ≡ refused 8)
+      ↔ (((isTicketsLength (length first) && isTicketsLength (length second)) ≡ true)
+      × ((isRefused (plainTickets first) || isRefused (plainTickets second)) ≡ true))
+  -- and no other number
+  pub no-other : (first second : List ℕ) (n : ℕ) → ofTwoPlain f first second ≡ refused n → (n ≡ 2) ⊎ (n ≡ 8)
 
 -- ## A ticket that does not unpack
 

@@ -4,7 +4,7 @@ use mathlib.Core.List.{List, [], _∷_, _++_}
 use Prim.Native.Nat.{ℕ, zero, suc, _+_, _-_, _*_, _/_, _%_}
 use lib.Dec.{leb, ltb, eqb}
 use lib.ListN.{length, take, drop, replicate}
-use Rattle.calls.specs.Calls.{isRefused, _if_else_, Reply, refused, done, accepted, Result, resultOf}
+use Rattle.calls.specs.Calls.{isRefused, _if_else_, Reply, refused, done, mapReply, mapReplies, accepted, Result, resultOf}
 use Rattle.acorn_model.specs.Machine.{keyLength}
 use Rattle.acorn_model.specs.Message.{sealed, tagMatches, opened}
 use Rattle.tape_model.specs.declared.Ticket.{Ticket}
@@ -59,6 +59,14 @@ unpackTickets (suc n) string = ticketThen (unpackTicket (take ticketLength strin
 unfoldable pub plainTickets : List ℕ → Reply (List Ticket)
 plainTickets string = refused 2 if not (isTicketsLength (length string)) else unpackTickets (length string / ticketLength) string
 
+-- a function of tickets, taken of those that opened bytes hold: 2 and 8 as above
+unfoldable pub ofPlain : {A : Type 0} → (List Ticket → A) → List ℕ → Reply A
+ofPlain f string = mapReply f (plainTickets string)
+
+-- and of two opened tapes: where both are refused, the smaller number
+unfoldable pub ofTwoPlain : {A : Type 0} → (List Ticket → List Ticket → A) → List ℕ → List ℕ → Reply A
+ofTwoPlain f first second = mapReplies f (plainTickets first) (plainTickets second)
+
 abbrev pub ticketsIn : Reply (List Ticket) → List Ticket
 ticketsIn (refused n) = []
 ticketsIn (done ts) = ts
@@ -72,12 +80,11 @@ pub record Totals : Type 0 where
   pub tickets : ℕ
   pub net : ℕ
 
-unfoldable pub totalsOf : Reply (List Ticket) → Reply Totals
-totalsOf (refused n) = refused n
-totalsOf (done ts) = done (record { tickets = length ts; net = totalNet ts })
+abbrev pub totalsOf : List Ticket → Totals
+totalsOf tickets = record { tickets = length tickets; net = totalNet tickets }
 
 unfoldable pub plainTotals : List ℕ → Reply Totals
-plainTotals string = totalsOf (plainTickets string)
+plainTotals string = ofPlain totalsOf string
 
 -- ## Opening
 

@@ -7,13 +7,13 @@ use native.Mathlib.Omega.{arith}
 use lib.ListN.{length, take, drop, replicate, length-append, length-drop}
 use lib.Seq.{length-take-le, take-all, take-at}
 use borrow.Author.Tests.{eq-eqb, le-leb}
-use Rattle.calls.specs.Calls.{_if_else_, Reply, refused, done, unlessRefused, writtenOver, resultOf, isRefused}
+use Rattle.calls.specs.Calls.{_if_else_, Reply, refused, done, mapReply, unlessRefused, writtenOver, resultOf, isRefused}
 use Rattle.acorn_model.specs.Machine.{keyLength, nonceLength, tagLength}
 use Rattle.acorn_model.specs.Message.{tagMatches}
 use Rattle.acorn_model.proofs.Messages.{opened-length}
 use Rattle.tape_model.specs.declared.Ticket.{Ticket}
 use Rattle.tape_model.specs.Ticket.{headLength}
-use Rattle.tape_model.specs.Tape.{nonceOf, isTicketsLength, unpackTickets, Totals, totalsOf, plainTotals, emptyTapeLength, headBytes, sealedBytes, ticketCount, plainBytes, openTapeRefusal, openTape, plainTickets}
+use Rattle.tape_model.specs.Tape.{nonceOf, isTicketsLength, unpackTickets, Totals, totalsOf, ofPlain, plainTotals, emptyTapeLength, headBytes, sealedBytes, ticketCount, plainBytes, openTapeRefusal, openTape, plainTickets}
 use Rattle.tape_model.proofs.Unpacking.{unpacked-count}
 use Rattle.message.specs.Contracts.{decryptable, DecryptsInto}
 use Rattle.ticket.specs.Packing.{nonceOrZeros}
@@ -85,8 +85,8 @@ module _ (key tape scratch : List ℕ) (only-text : OnlyText key tape scratch) w
           piece-is ∙ ap (take (length tape - emptyTapeLength)) text-written
           ∙ take-at (plainBytes key tape) (drop (length (plainBytes key tape)) scratch) (length tape - emptyTapeLength) plain-length
 
-      totals-are : t ≡ totalsOf tickets
-      unfolding plainTotals plainTickets isTicketsLength
+      totals-are : t ≡ mapReply totalsOf tickets
+      unfolding plainTotals ofPlain plainTickets isTicketsLength
       totals-are =
           t-is ∙ ap plainTotals plain-is
           ∙ rw (plain-length, eq-eqb _ 0 (o .tape-size .whole), le-leb _ _ (o .tape-size .few)) refl
@@ -95,18 +95,18 @@ module _ (key tape scratch : List ℕ) (only-text : OnlyText key tape scratch) w
       number-is = only-text ∙ (unfold textRefusal in rw (verdict ∙ right))
 
       pub wrong-ticket : (n : ℕ) → t ≡ refused n → openScratch key tape scratch ≡ record { answer = refused 8; out = replicate (length scratch) 0 }
-      unfolding totalsOf
+      unfolding mapReply
       wrong-ticket n e = refused-into key tape scratch 7 true refl (number-is ∙ by tickets (sym e ∙ totals-are))
         where
-          by : (u : Reply (List Ticket)) → refused n ≡ totalsOf u → _≡_ {A = ℕ} (8 if isRefused u else 0) 8
+          by : (u : Reply (List Ticket)) → refused n ≡ mapReply totalsOf u → _≡_ {A = ℕ} (8 if isRefused u else 0) 8
           by (refused m) f = refl
           by (done ts) f = absurd (let z : _≡_ {A = ℕ} 0 1 = cc in omega arith)
 
       pub opened-by-parts : (k : Totals) → t ≡ done k → openScratch key tape scratch ≡ record { answer = done k; out = mid }
-      unfolding openScratch scratchAfter openTape resultOf unlessRefused totalsOf
+      unfolding openScratch scratchAfter openTape resultOf unlessRefused mapReply
       opened-by-parts k e = by tickets refl (sym e ∙ totals-are)
         where
-          by : (u : Reply (List Ticket)) → tickets ≡ u → done k ≡ totalsOf u → openScratch key tape scratch ≡ record { answer = done k; out = mid }
+          by : (u : Reply (List Ticket)) → tickets ≡ u → done k ≡ mapReply totalsOf u → openScratch key tape scratch ≡ record { answer = done k; out = mid }
           by (refused m) d f = absurd (let z : _≡_ {A = ℕ} 0 1 = cc in omega arith)
           by (done ts) d f =
               let number : openTapeRefusal key tape scratch ≡ 0 = number-is ∙ ap (λ (u : Reply (List Ticket)). 8 if isRefused u else 0) d in

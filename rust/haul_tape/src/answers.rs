@@ -1,6 +1,7 @@
 //! The answers of the exports as results.
 
-use crate::exports::{Answer, Opened, UnpackedHead, UnpackedTicket, Written};
+use crate::exports::{Answer, Opened, TruckCount, TruckCounts};
+use crate::exports::{UnpackedHead, UnpackedTicket, Written};
 use crate::{Done, Head, Refusal, Ticket};
 
 impl Refusal {
@@ -52,5 +53,24 @@ impl UnpackedHead {
     pub(crate) fn into_result(self) -> Result<Head, Refusal> {
         Refusal::check(self.refused)?;
         Ok(self.head)
+    }
+}
+
+impl TruckCount {
+    /// The number of trucks.
+    pub(crate) fn into_result(self) -> Result<u32, Refusal> {
+        Refusal::check(self.refused)?;
+        Ok(self.trucks)
+    }
+}
+
+impl TruckCounts {
+    pub(crate) fn into_result(self) -> Result<crate::TruckCounts, Refusal> {
+        Refusal::check(self.refused)?;
+        Ok(crate::TruckCounts {
+            both: self.both,
+            either: self.either,
+            just_one: self.just_one,
+        })
     }
 }

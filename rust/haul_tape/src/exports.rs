@@ -90,6 +90,32 @@ pub struct Reading {
     pub ticket: Ticket,
 }
 
+/// The answer of counting the trucks on a tape.
+#[repr(C)]
+#[derive(Clone, Copy, PartialEq, Eq, Debug)]
+#[must_use = "the call may have been refused"]
+pub struct TruckCount {
+    /// 0, or the number that sent the call back.
+    pub refused: u32,
+    /// How many different trucks are on the tape.
+    pub trucks: u32,
+}
+
+/// The answer of comparing the trucks on two tapes.
+#[repr(C)]
+#[derive(Clone, Copy, PartialEq, Eq, Debug)]
+#[must_use = "the call may have been refused"]
+pub struct TruckCounts {
+    /// 0, or the number that sent the call back.
+    pub refused: u32,
+    /// How many trucks are on both tapes.
+    pub both: u32,
+    /// How many trucks are on one tape or both.
+    pub either: u32,
+    /// How many trucks are on one tape and not on the other.
+    pub just_one: u32,
+}
+
 /// A session of either kind. A drop puts zeros in place of its words.
 #[repr(C)]
 pub struct Session {
@@ -130,6 +156,10 @@ extern "C" {
     fn ht_open_tape(key: *const u8, keylen: usize, tape: *const u8, tapelen: usize, out: *mut u8, outlen: usize) -> Opened;
     fn ht_read_ticket(plain: *const u8, plainlen: usize, position: u64) -> Reading;
     fn ht_list_tape(key: *const u8, keylen: usize, tape: *const u8, tapelen: usize, out: *mut u8, outlen: usize) -> Written;
+
+    fn ht_trucks(plain: *const u8, plainlen: usize) -> TruckCount;
+    fn ht_trucks_of_two(first: *const u8, firstlen: usize, second: *const u8, secondlen: usize) -> TruckCounts;
+    fn ht_truck_set_of(plain: *const u8, plainlen: usize, set: *mut [u64; 16]) -> TruckCount;
 }
 
 /// Puts zeros in place of words, by writes that the compiler may not leave out although nobody
@@ -369,4 +399,23 @@ pub fn list_tape(key: &[u8], tape: &[u8], out: &mut [u8]) -> Written {
             out.len(),
         )
     }
+}
+
+/// How many different trucks are on an opened tape. 2, 8.
+pub fn trucks(plain: &[u8]) -> TruckCount {
+    // SAFETY: see the module's text.
+    unsafe { ht_trucks(plain.as_ptr(), plain.len()) }
+}
+
+/// How many different trucks are on both of two opened tapes, on either, and on just one. 2, 8.
+pub fn trucks_of_two(first: &[u8], second: &[u8]) -> TruckCounts {
+    // SAFETY: see the module's text.
+    unsafe { ht_trucks_of_two(first.as_ptr(), first.len(), second.as_ptr(), second.len()) }
+}
+
+/// As [`trucks`], and writes the set: truck k is bit k % 64 of word k / 64; where refused, the words
+/// stay as they were. 2, 8.
+pub fn truck_set_of(plain: &[u8], set: &mut [u64; 16]) -> TruckCount {
+    // SAFETY: see the module's text.
+    unsafe { ht_truck_set_of(plain.as_ptr(), plain.len(), set) }
 }

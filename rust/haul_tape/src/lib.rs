@@ -1,9 +1,10 @@
 //! Safe calls on the proved haul tape library: ACORN-128 version 3, haul tickets and shift tapes.
 //!
 //! A [`Writer`] seals a shift's [`Ticket`]s behind a [`Head`] as a tape; [`open_tape`] opens it, a
-//! [`Reader`] hands out its tickets, and [`listing`] prints them. [`message`] seals and opens byte
-//! messages whole; [`Sealing`] and [`Checking`] take them in pieces. A call that is sent back says
-//! why by a [`Refusal`].
+//! [`Reader`] hands out its tickets, and [`listing`] prints them. [`trucks()`] and [`trucks_of_two`]
+//! count the trucks on opened tapes, and [`truck_set_of`] gives them as a set of bits. [`message`] seals
+//! and opens byte messages whole; [`Sealing`] and [`Checking`] take them in pieces. A call that is
+//! sent back says why by a [`Refusal`].
 //!
 //! ```
 //! use haul_tape::{open_tape, Head, Reader, Refusal, Ticket, Writer};
@@ -90,6 +91,7 @@ mod refusal;
 mod session;
 mod tape;
 mod ticket;
+mod trucks;
 
 pub use refusal::Refusal;
 pub use session::{Checking, Done, Sealing};
@@ -97,6 +99,7 @@ pub use session::{Checking, Done, Sealing};
 pub use tape::listing_to_string;
 pub use tape::{listing, open_tape, Opened, Reader, Writer};
 pub use ticket::{Head, Ticket};
+pub use trucks::{truck_set_of, trucks, trucks_of_two, TruckCounts};
 
 /// Bytes of a key.
 pub const KEY_BYTES: usize = 16;

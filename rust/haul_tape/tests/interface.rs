@@ -1,7 +1,7 @@
 //! What a caller may rely on beside the library's own answers.
 
-use haul_tape::{exports, listing, message, open_tape};
-use haul_tape::{Checking, Head, Reader, Refusal, Sealing, Ticket, Writer};
+use haul_tape::{exports, listing, message, open_tape, truck_set_of, trucks, trucks_of_two};
+use haul_tape::{Checking, Head, Reader, Refusal, Sealing, Ticket, TruckCounts, Writer};
 use std::error::Error;
 
 const HEAD: Head = Head {
@@ -39,6 +39,105 @@ fn sizes_of_key_nonce_and_tag() {
         assert_eq!(listing(wrong, &tape, &mut out), Ok(10));
         assert_eq!(&out[..10], b"REFUSED 2\n");
     }
+}
+
+/// The plain bytes of a tape whose tickets have these trucks.
+fn plain(trucks: &[u16]) -> Vec<u8> {
+    let packed = |&truck| {
+        let ticket = Ticket {
+            form: 1,
+            truck,
+            shovel: 2,
+            tip: 3,
+            grade: 4,
+            loaded: 3_600,
+            tipped: 4_200,
+            gross: 250_000,
+            tare: 110_000,
+        };
+        ticket.pack().unwrap()
+    };
+    trucks.iter().flat_map(packed).collect()
+}
+
+/// A truck is one bit, however often it hauled.
+#[test]
+fn trucks_are_bits() {
+    let first = plain(&[1, 63, 64, 1_023, 64]);
+    assert_eq!(trucks(&first), Ok(4));
+    let mut set = [0; 16];
+    set[0] = 1 << 1 | 1 << 63;
+    set[1] = 1;
+    set[15] = 1 << 63;
+    assert_eq!(truck_set_of(&first), Ok(set));
+    let mut written = [u64::MAX; 16];
+    assert_eq!(exports::truck_set_of(&first, &mut written).trucks, 4);
+    assert_eq!(written, set);
+    let counts = |both, either, just_one| {
+        Ok(TruckCounts {
+            both,
+            either,
+            just_one,
+        })
+    };
+    let second = plain(&[1_023, 65, 1]);
+    assert_eq!(trucks_of_two(&first, &second), counts(2, 5, 3));
+    assert_eq!(trucks_of_two(&second, &first), counts(2, 5, 3));
+    assert_eq!(trucks_of_two(&first, &first), counts(4, 4, 0));
+    assert_eq!(trucks_of_two(&first, &[]), counts(0, 4, 4));
+    assert_eq!(trucks_of_two(&[], &[]), counts(0, 0, 0));
+    assert_eq!(truck_set_of(&[]), Ok([0; 16]));
+    let every = plain(&(1..=1_023).collect::<Vec<_>>());
+    assert_eq!(trucks(&every), Ok(1_023));
+    assert_eq!(trucks_of_two(&first, &every), counts(4, 1_023, 1_019));
+}
+
+/// Bytes that are not 13n with n at most 5,000, and tickets that do not unpack, are refused; of two
+/// tapes with the smaller number.
+#[test]
+fn trucks_of_wrong_bytes() {
+    let refused = |plain: &[u8], refusal: Refusal| {
+        assert_eq!(trucks(plain), Err(refusal));
+        assert_eq!(truck_set_of(plain), Err(refusal));
+        let answer = exports::TruckCount {
+            refused: u32::from(refusal.number()),
+            trucks: 0,
+        };
+        assert_eq!(exports::trucks(plain), answer);
+        let mut set = [0x5A5A_5A5A_5A5A_5A5A; 16];
+        assert_eq!(exports::truck_set_of(plain, &mut set), answer);
+        assert_eq!(set, [0x5A5A_5A5A_5A5A_5A5A; 16]);
+    };
+    let right = plain(&[7; 5_000]);
+    assert_eq!(trucks(&right), Ok(1));
+    let long = plain(&[7; 5_001]);
+    let wrong_sizes = (0..=64).filter(|size| size % 13 != 0);
+    for size in wrong_sizes.chain([64_999, 65_001, 65_013]) {
+        refused(&long[..size], Refusal::Size);
+        refused(&vec![0; size], Refusal::Size);
+    }
+    let mut bad = right.clone();
+    bad[64_999] |= 1;
+    refused(&bad, Refusal::Unpack);
+    refused(&[0; 13], Refusal::Unpack);
+
+    let (size, unpack) = (Err(Refusal::Size), Err(Refusal::Unpack));
+    let short = &right[1..];
+    assert_eq!(trucks_of_two(&right, short), size);
+    assert_eq!(trucks_of_two(short, &right), size);
+    assert_eq!(trucks_of_two(short, short), size);
+    assert_eq!(trucks_of_two(&bad, short), size);
+    assert_eq!(trucks_of_two(short, &bad), size);
+    assert_eq!(trucks_of_two(&right, &bad), unpack);
+    assert_eq!(trucks_of_two(&bad, &right), unpack);
+    assert_eq!(trucks_of_two(&bad, &bad), unpack);
+    let answer = exports::TruckCounts {
+        refused: 8,
+        both: 0,
+        either: 0,
+        just_one: 0,
+    };
+    assert_eq!(exports::trucks_of_two(&bad, &right), answer);
 }
 
 #[test]
@@ -82,6 +181,9 @@ fn sessions_are_plain_words() {
     sendable::<exports::Writer>(96);
     sendable::<Ticket>(24);
     sendable::<Head>(12);
+    sendable::<exports::TruckCount>(8);
+    sendable::<exports::TruckCounts>(16);
+    sendable::<TruckCounts>(12);
 }
 
 /// A text over the limit is refused before a vector of its length is made.

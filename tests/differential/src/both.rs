@@ -1,11 +1,11 @@
 //! Calls made on library and twin at once. Each answers what both said, with the output after it;
 //! where the two differ it panics.
 
-use haul_tape::exports::{self, Answer, Written};
+use haul_tape::exports::{self, Answer, TruckCount, Written};
 use haul_tape::{Head, Reader, Ticket};
 use haul_tape_twin::machine::Done;
 use haul_tape_twin::reader::{self, Next};
-use haul_tape_twin::{listing, message, tape, ticket};
+use haul_tape_twin::{listing, message, tape, ticket, trucks};
 use std::fmt::Debug;
 
 /// What a call answered, and its output after it.
@@ -78,6 +78,14 @@ fn written(written: Written) -> Result<usize, u8> {
     }
     assert_eq!(written.bytes, 0, "beside a refusal");
     Err(u8::try_from(written.refused).expect("a number of document 01"))
+}
+
+fn truck_count(count: TruckCount) -> Result<usize, u8> {
+    if count.refused == 0 {
+        return Ok(count.trucks as usize);
+    }
+    assert_eq!(count.trucks, 0, "beside a refusal");
+    Err(u8::try_from(count.refused).expect("a number of document 01"))
 }
 
 /// The ticket in the twin's form.
@@ -299,4 +307,85 @@ pub fn read(plain: &[u8]) -> (Vec<Ticket>, Option<u8>) {
     assert_eq!(reader.position(), tickets.len());
     assert!(reader.next().is_none());
     (tickets, end)
+}
+
+/// The trucks that a set of the library has: truck k is bit k % 64 of word k / 64.
+pub fn trucks_in(set: &[u64; 16]) -> Vec<u16> {
+    (0..1_024)
+        .filter(|&truck| set[usize::from(truck) / 64] >> (truck % 64) & 1 == 1)
+        .collect()
+}
+
+/// Counts the trucks on an opened tape and takes their set, into words that hold something. Answers
+/// the trucks, the smallest number first.
+#[track_caller]
+pub fn trucks(plain: &[u8]) -> Result<Vec<u16>, u8> {
+    let list = trucks::truck_list(plain);
+    let number = trucks::trucks(plain);
+    agree(
+        "trucks",
+        &[plain],
+        0,
+        |_| truck_count(exports::trucks(plain)),
+        |_| number,
+    );
+    let by_wrapper = haul_tape::trucks(plain).map_err(|refusal| refusal.number());
+    assert_eq!(by_wrapper.map(|trucks| trucks as usize), number);
+
+    // Every bit of the words is 0 before one of the two calls, and 1 before the other.
+    let words: [u64; 18] =
+        std::array::from_fn(|i| 0x9E37_79B9_7F4A_7C15_u64.wrapping_mul(i as u64 + 1));
+    for before in [words, words.map(|word| !word)] {
+        let mut after = before;
+        let (set, behind) = after[1..].split_first_chunk_mut().expect("16 words");
+        agree(
+            "the set of trucks",
+            &[plain],
+            0,
+            |_| truck_count(exports::truck_set_of(plain, set)),
+            |_| number,
+        );
+        match &list {
+            Ok(list) => assert_eq!(&trucks_in(set), list, "the set of trucks"),
+            Err(_) => assert_eq!(set[..], before[1..17], "a set after a refusal"),
+        }
+        assert_eq!(behind, &before[17..], "behind a set");
+        assert_eq!(after[0], before[0], "before a set");
+    }
+    let by_wrapper = haul_tape::truck_set_of(plain).map_err(|refusal| refusal.number());
+    assert_eq!(by_wrapper.map(|set| trucks_in(&set)), list);
+    list
+}
+
+/// Counts the trucks on two opened tapes.
+#[track_caller]
+pub fn trucks_of_two(first: &[u8], second: &[u8]) -> Result<trucks::TruckCounts, u8> {
+    let ran = agree(
+        "trucks of two tapes",
+        &[first, second],
+        0,
+        |_| {
+            let counts = exports::trucks_of_two(first, second);
+            let (both, either, just_one) = (counts.both, counts.either, counts.just_one);
+            if counts.refused == 0 {
+                return Ok(trucks::TruckCounts {
+                    both: both as usize,
+                    either: either as usize,
+                    just_one: just_one as usize,
+                });
+            }
+            assert_eq!((both, either, just_one), (0, 0, 0), "beside a refusal");
+            Err(u8::try_from(counts.refused).expect("a number of document 01"))
+        },
+        |_| trucks::trucks_of_two(first, second),
+    );
+    let by_wrapper = haul_tape::trucks_of_two(first, second)
+        .map(|counts| trucks::TruckCounts {
+            both: counts.both as usize,
+            either: counts.either as usize,
+            just_one: counts.just_one as usize,
+        })
+        .map_err(|refusal| refusal.number());
+    assert_eq!(by_wrapper, ran.answer);
+    ran.answer
 }

@@ -8,6 +8,7 @@ mod openings;
 mod packed;
 mod readings;
 mod tapes;
+mod trucks;
 
 pub use readings::Readers;
 
@@ -41,6 +42,7 @@ pub fn files() -> Vec<File> {
     ];
     let tapes = tapes::tapes();
     files.push(openings::openings(&tapes));
+    files.push(trucks::trucks(&tapes));
     files.extend(tapes);
     files
 }
@@ -57,8 +59,11 @@ pub fn hex(bytes: &[u8]) -> String {
 }
 
 /// The bytes that a field of the kit stands for: hexadecimal, `-`, `*` and a length, or a number, `x`
-/// and the bytes that stand so many times in a row.
+/// and the bytes that stand so many times in a row; or several of these, joined by `+`.
 pub fn bytes_of(field: &str) -> Vec<u8> {
+    if let Some((first, rest)) = field.split_once('+') {
+        return [bytes_of(first), bytes_of(rest)].concat();
+    }
     if field == "-" {
         return Vec::new();
     }

@@ -323,10 +323,7 @@ fn openings() {
         match answer {
             [done, n, net, plain] if done == "done" => {
                 assert_eq!(ran.answer, Ok((number(n), number(net))), "{fields:?}");
-                let plain = match plain.ends_with(".txt") {
-                    true => packed_tickets(&format!("tapes/{plain}")),
-                    false => bytes_of(plain),
-                };
+                let plain = plain_bytes(plain);
                 both::same_bytes("plain bytes", &ran.out[..13 * number::<usize>(n)], &plain);
             }
             [refused, expected] if refused == "refused" => {
@@ -334,6 +331,49 @@ fn openings() {
             }
             _ => panic!("no answer: {fields:?}"),
         }
+    }
+}
+
+#[test]
+fn trucks() {
+    let (mut tried, mut refused) = ([0, 0], [0, 0]);
+    for fields in lines("trucks.txt") {
+        let (call, answer) = parted(&fields);
+        let tapes: Vec<Vec<u8>> = call[1..].iter().map(|field| plain_bytes(field)).collect();
+        let expected: Result<Vec<usize>, u8> = match answer[0].as_str() {
+            "done" => Ok(answer[1..].iter().map(|field| number(field)).collect()),
+            "refused" => Err(number(&answer[1])),
+            answer => panic!("no answer: {answer}"),
+        };
+        let (which, answer) = match (call[0].as_str(), &tapes[..]) {
+            ("trucks", [plain]) => {
+                let trucks = both::trucks(plain).map(|trucks| {
+                    let mut numbers = vec![trucks.len()];
+                    numbers.extend(trucks.into_iter().map(usize::from));
+                    numbers
+                });
+                (0, trucks)
+            }
+            ("trucks_of_two", [first, second]) => {
+                let counts = both::trucks_of_two(first, second)
+                    .map(|counts| vec![counts.both, counts.either, counts.just_one]);
+                (1, counts)
+            }
+            _ => panic!("no line: {fields:?}"),
+        };
+        assert_eq!(answer, expected, "{fields:?}");
+        tried[which] += 1;
+        refused[which] += u32::from(expected.is_err());
+    }
+    assert!(tried.iter().all(|&tried| tried > 40), "{tried:?}");
+    assert!(refused.iter().all(|&refused| refused > 15), "{refused:?}");
+}
+
+/// The plain bytes that a field stands for; it may name the file of a tape.
+fn plain_bytes(field: &str) -> Vec<u8> {
+    match field.ends_with(".txt") {
+        true => packed_tickets(&format!("tapes/{field}")),
+        false => bytes_of(field),
     }
 }
 

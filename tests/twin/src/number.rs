@@ -2,7 +2,8 @@
 
 /// The phase, or the kind of machine, does not allow the call.
 pub const PHASE: u8 = 1;
-/// A length that must be exact is not: key, nonce, tag, sealed bytes, tape, a reader's bytes.
+/// A length that must be exact is not: key, nonce, tag, sealed bytes, tape, a reader's bytes, an
+/// opened tape.
 pub const LENGTH: u8 = 2;
 /// A head field is outside its range.
 pub const HEAD: u8 = 3;

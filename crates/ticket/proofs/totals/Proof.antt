@@ -4,15 +4,17 @@ use mathlib.Core.Path.{_≡_, sym, ap, _∙_}
 use native.Mathlib.Omega.{arith}
 use borrow.Author.Needs.{needs}
 use Rattle.tape_model.specs.Ticket.{ticketReply}
-use Rattle.tape_model.specs.Tape.{unpackTickets, plainTickets, totalsOf, plainTotals, totalsReply}
-use Rattle.ticket.proofs.Summing.{totalsAfter, left, all-left, none-left, one-done, one-refused, few-tickets, length-allowed}
+use Rattle.calls.specs.Calls.{done, mapReply}
+use Rattle.tape_model.specs.Tape.{unpackTickets, totalsOf, plainTotals, totalsReply}
+use Rattle.tape_model.proofs.OneByOne.{left, all-left, none-left, one-done, one-refused, wrong-length, few-tickets, right-length}
+use Rattle.ticket.proofs.Summing.{totalsAfter, none-before, one-more, none-behind}
 use Rattle.ticket.proofs.totals.Statement.{statement}
 use Rattle.ticket.proofs.totals.Tie as tie
 
 abbrev Inv-loop : tie.InvT-loop
 Inv-loop plain size tickets i₀ sum₀ i sum =
     (i ≤ tickets) × (tickets ≤ 5000) × (sum ≤ 2 ^ 32 * i)
-    × (totalsAfter i sum (left plain tickets i) ≡ totalsOf (unpackTickets tickets plain))
+    × (mapReply (totalsAfter i sum) (left plain tickets i) ≡ mapReply totalsOf (unpackTickets tickets plain))
 
 abbrev μ-loop : tie.MeasureT-loop
 μ-loop plain size tickets i₀ sum₀ i sum = tickets - i
@@ -21,13 +23,13 @@ is-tickets-length-requires : tie.Need-is-tickets-length-requires Inv-loop μ-loo
 is-tickets-length-requires c κs = search needs
 
 returns : tie.Need-returns Inv-loop μ-loop
-unfolding totalsReply plainTotals plainTickets totalsOf
-returns c = rw (sym (c .before .is-tickets-length .ensures), c .if1 .taken)
+unfolding totalsReply plainTotals
+returns c = wrong-length _ _ (c .before .is-tickets-length .ensures) totalsOf (c .if1 .taken)
 
 loop-holds : tie.Need-loop-holds Inv-loop μ-loop
 loop-holds c =
     let s = c .before .before .before .args .plain .now in
-    (omega arith, few-tickets s _ (c .before .is-tickets-length .ensures) (c .if1 .left), omega arith, all-left _ _)
+    (omega arith, few-tickets s _ (c .before .is-tickets-length .ensures) (c .if1 .left), omega arith, all-left _ _ (totalsAfter 0 0) ∙ none-before _)
 
 mul-at : tie.Need-mul-at Inv-loop μ-loop
 mul-at c = search needs
@@ -54,13 +56,13 @@ enum-told : tie.Need-enum-told Inv-loop μ-loop
 enum-told c = search needs
 
 returns-2 : tie.Need-returns-2 Inv-loop μ-loop
-unfolding totalsReply ticketReply
+unfolding totalsReply ticketReply plainTotals
 returns-2 c =
     let e = c .before .before .before .before .before .before in
     let s = e .before .before .before .args .plain .now in
     let l = c .before .before .before .before .before .loop in
-    length-allowed s _ (e .before .is-tickets-length .ensures) (e .if1 .left) _
-    (one-refused s _ (l .i) (l .sum) (13 * l .i + 13 - 13 * l .i) (omega arith) (omega arith) _ (omega arith)
+    right-length s _ (e .before .is-tickets-length .ensures) (e .if1 .left) totalsOf _
+    (one-refused s _ (l .i) (13 * l .i + 13 - 13 * l .i) (omega arith) (omega arith) (totalsAfter (l .i) (l .sum)) _ (omega arith)
     (ap ticketReply (sym (c .enum-told .given .1)) ∙ c .before .before .unpack-ticket .ensures)
     ∙ l .inv .3)
 
@@ -87,18 +89,19 @@ loop-again c =
       omega arith,
       l .inv .1,
       omega arith,
-      one-done s _ (l .i) (l .sum) (13 * l .i + 13 - 13 * l .i) (omega arith) (omega arith) _ _
-          (ap ticketReply (sym (c .before .before .t .given .1)) ∙ c .before .before .before .before .unpack-ticket .ensures) (c .net .ensures)
+      one-done s _ (l .i) (13 * l .i + 13 - 13 * l .i) (omega arith) (omega arith) _ _ _ (one-more (l .i) (l .sum) _ _ (c .net .ensures))
+          (ap ticketReply (sym (c .before .before .t .given .1)) ∙ c .before .before .before .before .unpack-ticket .ensures)
           ∙ l .inv .3,
     )
 
 returns-3 : tie.Need-returns-3 Inv-loop μ-loop
-unfolding totalsReply
+unfolding totalsReply plainTotals
 returns-3 c =
     let e = c .before .before in
     let s = e .before .before .before .args .plain .now in
     let l = c .before .loop in
-    length-allowed s _ (e .before .is-tickets-length .ensures) (e .if1 .left) _ (none-left s _ (l .i) (l .sum) (omega arith) ∙ l .inv .3)
+    right-length s _ (e .before .is-tickets-length .ensures) (e .if1 .left) totalsOf _
+    (ap done (none-behind (l .i) _ (l .sum) (omega arith)) ∙ none-left s _ (l .i) (totalsAfter (l .i) (l .sum)) (omega arith) ∙ l .inv .3)
 
 pub totals-spec : {M : Type 1} → statement M
 totals-spec =

@@ -38,20 +38,9 @@ impl Lines {
     /// A tape of the kit's directory, too long to be written here, into just enough room and into a
     /// byte less.
     fn long(&mut self, name: &str, tapes: &[File]) {
-        let bytes = |ending: &str| {
-            let name = format!("tapes/{name}.{ending}");
-            let file = tapes.iter().find(|file| file.name == name);
-            file.expect("a tape of the kit").bytes.clone()
-        };
-        let tape = bytes("tape");
-        let holds = String::from_utf8(bytes("txt")).expect("text");
-        let key = holds
-            .lines()
-            .next()
-            .and_then(|key| key.strip_prefix("key "));
-        let key = key.expect("a key");
+        let (key, tape) = tapes::key_and_tape(name, tapes);
         for room in [tape.len() - 25, tape.len() - 26] {
-            let ran = both::open_tape(&bytes_of(key), &tape, room);
+            let ran = both::open_tape(&bytes_of(&key), &tape, room);
             let answer = answered(&ran, |_| format!("{name}.txt"));
             self.0.push(format!("{key} {name}.tape {room} = {answer}"));
         }

@@ -57,6 +57,21 @@ pub(super) fn sealed(key: &[u8], head: [u8; 9], plain: &[u8]) -> Vec<u8> {
     [&head, &sealed.out[..]].concat()
 }
 
+/// Of a tape of the kit, by its name: the key as a field, and the tape's bytes.
+pub(super) fn key_and_tape(name: &str, files: &[File]) -> (String, Vec<u8>) {
+    let bytes = |ending: &str| {
+        let name = format!("tapes/{name}.{ending}");
+        let file = files.iter().find(|file| file.name == name);
+        file.expect("a tape of the kit").bytes.clone()
+    };
+    let holds = String::from_utf8(bytes("txt")).expect("text");
+    let key = holds
+        .lines()
+        .next()
+        .and_then(|key| key.strip_prefix("key "));
+    (key.expect("a key").to_string(), bytes("tape"))
+}
+
 pub(super) fn tapes() -> Vec<File> {
     let mut random = Random::new(7);
     let mut tickets = |n: usize| -> Vec<Ticket> { (0..n).map(|_| random.ticket()).collect() };

@@ -1,0 +1,27 @@
+-- `truck_counts` meets its contract.
+use borrow.Author.Needs.{needs}
+use Rattle.trucks.specs.Words.{countsReply}
+use Rattle.c_answers.specs.Answers.{countsNumbers}
+use Rattle.c_answers.proofs.truck_counts.Statement.{statement}
+use Rattle.c_answers.proofs.truck_counts.Tie as tie
+
+enum-known-answer : tie.Need-enum-known-answer
+enum-known-answer c = search needs
+
+wide-requires : tie.Need-wide-requires
+wide-requires c κs = search needs
+
+enum-known-answer-2 : tie.Need-enum-known-answer-2
+enum-known-answer-2 c = search needs
+
+returns : tie.Need-returns
+unfolding countsNumbers countsReply
+returns c = cc
+
+returns-2 : tie.Need-returns-2
+unfolding countsNumbers countsReply
+returns-2 c = cc
+
+pub truck-counts-spec : {M : Type 1} → statement M
+truck-counts-spec =
+    tie.close (tie.spec enum-known-answer wide-requires enum-known-answer-2 returns returns-2)

@@ -1,0 +1,4 @@
+pub mod Trucks
+pub mod Words
+pub mod Laws
+pub mod Cases

@@ -1,0 +1,213 @@
+//! The trucks on one opened tape and on two.
+
+use super::{bytes_of, hex, line, pack_anyway, star, tapes, File};
+use super::{GREATEST, SMALLEST, TICKET};
+use crate::both;
+use crate::random::turned;
+use haul_tape::Ticket;
+
+/// Lines of the file, with the tapes that a field may name.
+struct Lines<'a> {
+    lines: Vec<String>,
+    tapes: &'a [File],
+}
+
+impl Lines<'_> {
+    fn title(&mut self, title: &str) {
+        self.lines.push(format!("\n# {title}"));
+    }
+
+    /// The plain bytes that a field stands for.
+    fn plain(&self, field: &str) -> Vec<u8> {
+        let Some(name) = field.strip_suffix(".txt") else {
+            return bytes_of(field);
+        };
+        let (key, tape) = tapes::key_and_tape(name, self.tapes);
+        let opened = both::open_tape(&bytes_of(&key), &tape, tape.len() - 25);
+        opened.answer.expect("the tape opens");
+        opened.out
+    }
+
+    /// The trucks on an opened tape.
+    fn one(&mut self, plain: &str) {
+        let answer = match both::trucks(&self.plain(plain)) {
+            Ok(trucks) => {
+                let mut answer = line(&[&"done", &trucks.len()]);
+                for truck in trucks {
+                    answer = line(&[&answer, &truck]);
+                }
+                answer
+            }
+            Err(number) => line(&[&"refused", &number]),
+        };
+        self.lines.push(line(&[&"trucks", &plain, &"=", &answer]));
+    }
+
+    /// The trucks on two opened tapes.
+    fn two(&mut self, first: &str, second: &str) {
+        let answer = match both::trucks_of_two(&self.plain(first), &self.plain(second)) {
+            Ok(counts) => line(&[&"done", &counts.both, &counts.either, &counts.just_one]),
+            Err(number) => line(&[&"refused", &number]),
+        };
+        self.lines
+            .push(line(&[&"trucks_of_two", &first, &second, &"=", &answer]));
+    }
+
+    /// The two tapes, each of them once as the first.
+    fn both_orders(&mut self, one: &str, other: &str) {
+        self.two(one, other);
+        self.two(other, one);
+    }
+}
+
+/// A ticket for each of these trucks in turn, as a field; `-` for none.
+fn tape(trucks: &[u16]) -> String {
+    let tickets = trucks.iter().map(|&truck| Ticket { truck, ..TICKET });
+    let plain: Vec<u8> = tickets
+        .flat_map(|ticket| both::pack_ticket(ticket, 13).out)
+        .collect();
+    hex(&plain)
+}
+
+/// Trucks at both ends of each run of 64.
+fn ends() -> Vec<u16> {
+    (0..16)
+        .flat_map(|k| [(64 * k).max(1), 64 * k + 63])
+        .collect()
+}
+
+pub(super) fn trucks(tapes: &[File]) -> File {
+    let titles = "# trucks plain = answer\n# trucks_of_two first second = answer";
+    let mut lines = Lines {
+        lines: vec![titles.to_string()],
+        tapes,
+    };
+    let ticket = both::pack_ticket(TICKET, 13).out;
+    let good = &hex(&ticket);
+    let bad = &hex(&turned(&ticket, 8 * 12));
+    let other = &tape(&[6]);
+
+    lines.title("No bytes: no truck.");
+    lines.one("-");
+    lines.title("Document 01's ticket; three with other values; the same truck several times.");
+    lines.one(good);
+    let three = |truck: [u16; 3]| {
+        let tickets = [SMALLEST, TICKET, GREATEST];
+        let tickets = [0, 1, 2].map(|i| Ticket {
+            truck: truck[i],
+            ..tickets[i]
+        });
+        hex(&tickets.map(|t| both::pack_ticket(t, 13).out).concat())
+    };
+    lines.one(&three([1, 5, 1_023]));
+    lines.one(&format!("3x{good}"));
+    lines.one(&three([5, 5, 5]));
+    lines.one(&three([700, 5, 700]));
+
+    lines.title("One truck.");
+    for truck in [1, 63, 64, 127, 128, 511, 512, 1_022, 1_023] {
+        lines.one(&tape(&[truck]));
+    }
+    lines.title("Several trucks, in any order, some of them more than once.");
+    lines.one(&tape(&[64, 63]));
+    lines.one(&tape(&[1_023, 128, 1, 64, 127, 63]));
+    lines.one(&tape(&[128, 64, 128, 63, 64, 128]));
+    lines.one(&tape(&ends()));
+
+    lines.title("Tapes of the directory; 5,000 tickets of one truck, of two and of three.");
+    for name in ["0_tickets", "3_tickets", "40_tickets", "5000_tickets"] {
+        lines.one(&format!("{name}.txt"));
+    }
+    lines.one(&format!("5000x{good}"));
+    lines.one(&format!("2500x{good}+2500x{other}"));
+    lines.one(&format!("{}+4998x{good}+{}", tape(&[1_023]), tape(&[1])));
+
+    lines.title("1, 12, 14, 25 and 27 bytes (26 are right), and around 5,000 tickets.");
+    for length in [1, 12] {
+        lines.one(&hex(&ticket[..length]));
+    }
+    lines.one(&format!("{good}+00"));
+    lines.one(&hex(&ticket.repeat(2)[..25]));
+    lines.one(&format!("2x{good}"));
+    lines.one(&format!("2x{good}+00"));
+    lines.one(&star(64_999));
+    lines.one(&star(65_001));
+    lines.one(&format!("5000x{good}+00"));
+    lines.title("5,001 tickets.");
+    lines.one(&format!("5001x{good}"));
+
+    lines.title("A ticket that does not unpack: a spare bit is set, 13 zero bytes, truck 0,");
+    lines.lines.push(
+        "# grade 10, loaded above tipped, a tare above the gross, 65,000 bytes by rule."
+            .to_string(),
+    );
+    lines.one(bad);
+    lines.one("13x00");
+    let t = TICKET;
+    for broken in [
+        Ticket { truck: 0, ..t },
+        Ticket { grade: 10, ..t },
+        Ticket { loaded: 4_201, ..t },
+        Ticket { tare: 250_001, ..t },
+    ] {
+        let broken = pack_anyway(broken).expect("the ticket fits its widths");
+        lines.one(&hex(&broken));
+    }
+    lines.one(&star(65_000));
+    lines.title("8 wherever it stands.");
+    lines.one(&format!("{bad}+2x{good}"));
+    lines.one(&format!("{good}+{bad}+{good}"));
+    lines.one(&format!("2x{good}+{bad}"));
+    lines.one(&format!("4999x{good}+{bad}"));
+    lines.title("2 before 8.");
+    lines.one(&format!("{bad}+{}", hex(&ticket[..12])));
+    lines.one("64x00");
+    lines.one(&format!("5001x{bad}"));
+
+    lines.title("Two tapes, one or both of them without a ticket.");
+    lines.two("-", "-");
+    lines.both_orders(good, "-");
+    lines.both_orders(&tape(&[1, 64, 1_023]), "-");
+    lines.title("The same trucks, whatever their order and number of tickets.");
+    lines.two(good, good);
+    lines.two(good, &three([5, 5, 5]));
+    lines.both_orders(&tape(&[63, 64, 1_023]), &tape(&[1_023, 63, 64, 63, 1_023]));
+    lines.title("No truck in common.");
+    lines.both_orders(good, other);
+    lines.both_orders(&tape(&[63]), &tape(&[64]));
+    lines.both_orders(&tape(&[1, 64, 128, 1]), &tape(&[1_023, 63, 127]));
+    lines.title("Some in common.");
+    lines.both_orders(&tape(&[5, 6, 5]), &tape(&[6, 7, 7]));
+    lines.both_orders(
+        &tape(&[1, 63, 64, 127, 128, 1_023]),
+        &tape(&[1_023, 63, 64]),
+    );
+    lines.both_orders(&tape(&ends()), &tape(&[1, 2, 63, 1_022, 1_023]));
+    lines.title("Tapes of the directory, and 5,000 tickets.");
+    lines.both_orders("3_tickets.txt", "1_ticket.txt");
+    lines.both_orders("40_tickets.txt", "5000_tickets.txt");
+    lines.both_orders("5000_tickets.txt", &tape(&ends()));
+    lines.two("5000_tickets.txt", "5000_tickets.txt");
+    lines.both_orders(&format!("5000x{good}"), &format!("5000x{other}"));
+    lines.both_orders(
+        &format!("5000x{good}"),
+        &format!("2500x{other}+2500x{good}"),
+    );
+
+    let (short, long) = (&hex(&ticket[..12]), &format!("5001x{good}"));
+    let late = &format!("4999x{good}+{bad}");
+    lines.title("One is refused: its number.");
+    for refused in [short, long, bad, late] {
+        lines.both_orders(good, refused);
+        lines.both_orders("-", refused);
+    }
+    lines.title("Both are refused: the smaller number, whichever is the first.");
+    lines.two(short, short);
+    lines.both_orders(short, long);
+    lines.two(bad, bad);
+    lines.both_orders(short, bad);
+    lines.both_orders(long, bad);
+    lines.both_orders(long, late);
+    lines.both_orders(bad, &format!("5001x{bad}"));
+    File::text("trucks.txt", lines.lines)
+}
