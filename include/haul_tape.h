@@ -109,7 +109,7 @@ ht_answer ht_session_check_close(ht_session *s, const uint8_t *tag, size_t tagle
 /* ---- tickets and heads ---- */
 
 /* form 1; truck 1 to 1,023; shovel and tip 1 to 63; grade 0 to 9; loaded and tipped 0 to 43,199, in seconds of the shift, loaded
- * at most tipped; gross and tare 0 to 1,048,575 kg, tare below gross */
+ * at most tipped; gross and tare 0 to 1,048,575 kg, tare at most gross; net is gross minus tare, 0 for an empty trip */
 typedef struct {
     uint8_t form;
     uint16_t truck;

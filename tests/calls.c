@@ -1,5 +1,6 @@
-/* Every call of the header: two tickets go onto a tape, the tape is opened and read back, a message is sealed and checked in pieces, and
- * the trucks of tapes are counted. Prints what it read, and ends with 1 where anything is not as it should be.
+/* Every call of the header: two tickets go onto a tape, the tape is opened and read back, a message is sealed and checked in pieces,
+ * the trucks of tapes are counted, and tickets are judged by their weights. Prints what it read, and ends with 1 where anything is not
+ * as it should be.
  */
 #include "haul_tape.h"
 
@@ -263,6 +264,114 @@ static void trucks(void)
     }
 }
 
+/* ---- gross and tare ---- */
+
+enum { ROOM = 2 * HT_TICKET_BYTES };
+
+static void fill(uint8_t *bytes, size_t n)
+{
+    memset(bytes, 0x5a, n);
+}
+
+static void must_be_filled(const uint8_t *bytes, size_t n)
+{
+    for (size_t i = 0; i < n; i++)
+        must(bytes[i] == 0x5a, "a refused call writes");
+}
+
+/* A ticket with this gross and tare, on a tape behind another. It keeps the rule where the tare is at most the gross. */
+static void weighed(uint32_t gross, uint32_t tare)
+{
+    const ht_head head = {.device = 7, .shift = 2, .sheet = 1};
+    const ht_ticket first = {.form = 1, .truck = 5, .shovel = 2, .tip = 3, .grade = 4,
+        .loaded = 3600, .tipped = 4200, .gross = 250000, .tare = 110000}, zeros = {0};
+    const int right = tare <= gross;
+    ht_ticket t = first, no_tare;
+    uint8_t plain[ROOM], out[ROOM], nonce[HT_NONCE_BYTES] = {0}, tape[HT_HEAD_BYTES + ROOM + HT_TAG_BYTES], by_writer[sizeof tape];
+    uint8_t *packed = plain + HT_TICKET_BYTES;
+    char listing[100] = "REFUSED 8\n", text[100];
+
+    /* the ticket's bytes, whether it keeps the rule or not: the tare goes between the gross and two spare bits */
+    t.truck = 6, t.gross = gross, t.tare = 0;
+    no_tare = t, t.tare = tare;
+    must(ht_pack_ticket(first, plain, HT_TICKET_BYTES).refused == 0, "a ticket does not pack");
+    must(ht_pack_ticket(no_tare, packed, HT_TICKET_BYTES).refused == 0, "a ticket without tare does not pack");
+    packed[10] |= (uint8_t)(tare >> 14), packed[11] = (uint8_t)(tare >> 6), packed[12] = (uint8_t)(tare << 2);
+
+    /* pack and unpack; a broken rule comes before a short output */
+    fill(out, sizeof out);
+    must(ht_pack_ticket(t, out, HT_TICKET_BYTES - 1).refused == (right ? 6 : 4), "a ticket is packed in 12 bytes");
+    must_be_filled(out, sizeof out);
+    ht_written w = ht_pack_ticket(t, out, sizeof out);
+    must(w.refused == (right ? 0 : 4) && w.bytes == (right ? HT_TICKET_BYTES : 0), "ht_pack_ticket answers otherwise");
+    must_be_filled(out + w.bytes, sizeof out - w.bytes);
+    must(memcmp(out, packed, w.bytes) == 0, "a ticket packs to other bytes");
+    ht_unpacked_ticket u = ht_unpack_ticket(packed, HT_TICKET_BYTES);
+    must(u.refused == (right ? 0 : 8) && same_ticket(u.ticket, right ? t : zeros), "ht_unpack_ticket answers otherwise");
+
+    /* a tape, by ht_seal, and by the writer where it takes the ticket */
+    must(ht_pack_head(head, nonce, HT_HEAD_BYTES).refused == 0, "the head does not pack");
+    memcpy(tape, nonce, HT_HEAD_BYTES);
+    w = ht_seal(key, sizeof key, nonce, sizeof nonce, nonce, HT_HEAD_BYTES, plain, ROOM, tape + HT_HEAD_BYTES, ROOM + HT_TAG_BYTES);
+    must(w.refused == 0, "the tape does not seal");
+    if (right) {
+        must(write_tape(head, (ht_ticket[]){first, t}, 2, by_writer, sizeof by_writer) == sizeof tape, "the tape has another length");
+        must(memcmp(tape, by_writer, sizeof tape) == 0, "the writer writes another tape");
+    } else {
+        ht_writer writer, before;
+        ht_writer_fresh(&writer);
+        must(ht_writer_start(&writer, key, sizeof key, head, by_writer, sizeof by_writer).refused == 0, "start is refused");
+        before = writer;
+        fill(out, sizeof out);
+        ht_answer a = ht_writer_add(&writer, t, out, sizeof out);
+        must(a.refused == 4 && a.bytes == 0 && a.steps == 0, "ht_writer_add answers otherwise");
+        must(memcmp(&writer, &before, sizeof writer) == 0, "a refused call changes the writer");
+        must_be_filled(out, sizeof out);
+    }
+
+    /* open, read, count trucks, list */
+    const uint64_t net = right ? 140000 + gross - tare : 0;
+    fill(out, sizeof out);
+    ht_opened o = ht_open_tape(key, sizeof key, tape, sizeof tape, out, sizeof out);
+    must(o.refused == (right ? 0 : 8) && o.tickets == (right ? 2 : 0) && o.net == net, "ht_open_tape answers otherwise");
+    if (right)
+        must(memcmp(out, plain, sizeof plain) == 0, "another text opens");
+    else
+        must_be_filled(out, sizeof out);
+    ht_reading r = ht_read_ticket(plain, sizeof plain, 1);
+    must(r.refused == u.refused && r.at_end == 0 && r.position == (right ? 2 : 1), "ht_read_ticket answers otherwise");
+    must(same_ticket(r.ticket, u.ticket), "another ticket was read");
+    const opened_tape both = {plain, ROOM, u.refused}, alone = {plain, HT_TICKET_BYTES, 0};
+    trucks_on(both, right ? 2 : 0);
+    trucks_on_two(both, alone, u.refused, right ? 1 : 0, right ? 2 : 0, right ? 1 : 0);
+    if (right)
+        snprintf(listing, sizeof listing, "TAPE 7 2 1\n1 5 2 3 4 3600 4200 140000\n2 6 2 3 4 3600 4200 %" PRIu32 "\nTOTAL 2 %" PRIu64 "\n",
+            gross - tare, net);
+    w = ht_list_tape(key, sizeof key, tape, sizeof tape, (uint8_t *)text, sizeof text);
+    must(w.refused == 0 && w.bytes == strlen(listing), "the listing has another length");
+    must(memcmp(text, listing, w.bytes) == 0, "the listing differs");
+}
+
+static void weights(void)
+{
+    static const uint32_t gross[] = {0, 1, 5, 110000, 250000, 524287, 524288, 1048574, 1048575};
+    uint8_t packed[HT_TICKET_BYTES];
+
+    for (size_t i = 0; i < sizeof gross / sizeof *gross; i++) {
+        weighed(gross[i], 0);
+        if (gross[i] > 0)
+            weighed(gross[i], gross[i] - 1);
+        weighed(gross[i], gross[i]); /* an empty trip */
+        if (gross[i] < 1048575)
+            weighed(gross[i], gross[i] + 1);
+        weighed(gross[i], 1048575);
+    }
+    const ht_ticket heavy = {.form = 1, .truck = 5, .shovel = 2, .tip = 3, .grade = 4,
+        .loaded = 3600, .tipped = 4200, .gross = 1048576, .tare = 1048576};
+    must(ht_pack_ticket(heavy, packed, sizeof packed).refused == 4, "a gross and tare of 1,048,576 are taken");
+    printf("tare at most gross is taken, with net 0 where they are equal, and tare above gross is not\n");
+}
+
 int main(void)
 {
     static const ht_ticket tickets[2] = {
@@ -282,5 +391,6 @@ int main(void)
     known_answers();
     message();
     trucks();
+    weights();
     return 0;
 }

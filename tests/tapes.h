@@ -42,8 +42,10 @@ static ht_ticket random_ticket(void)
 
     t.tipped = (uint32_t)(random_word() % 43200);
     t.loaded = (uint32_t)(random_word() % (t.tipped + 1));
-    t.gross = (uint32_t)(1 + random_word() % 1048575);
-    t.tare = (uint32_t)(random_word() % t.gross);
+    t.gross = (uint32_t)(random_word() % 1048576);
+    t.tare = (uint32_t)(random_word() % (t.gross + 1));
+    if (random_word() % 8 == 0)
+        t.tare = t.gross; /* an empty trip */
     return t;
 }
 

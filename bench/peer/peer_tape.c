@@ -20,7 +20,7 @@ static inline uint64_t rd64(const uint8_t *p)
 static inline int valid(const ht_ticket *t)
 {
     return t->form == 1 && t->truck >= 1 && t->truck <= 1023 && t->shovel >= 1 && t->shovel <= 63 && t->tip >= 1 && t->tip <= 63
-        && t->grade <= 9 && t->tipped <= 43199 && t->loaded <= t->tipped && t->gross <= 1048575 && t->tare < t->gross;
+        && t->grade <= 9 && t->tipped <= 43199 && t->loaded <= t->tipped && t->gross <= 1048575 && t->tare <= t->gross;
 }
 
 static inline int head_valid(ht_head h)

@@ -217,7 +217,7 @@ impl Ticket {
             && self.tipped <= 43_199
             && self.loaded <= self.tipped
             && self.gross < 1 << 20
-            && self.tare < self.gross
+            && self.tare <= self.gross
     }
 
     fn pack(&self) -> Option<[u8; 13]> {
@@ -446,8 +446,12 @@ mod tests {
             shift: 2,
             sheet: 1_000_000,
         };
+        let empty_trip = Ticket {
+            gross: 110_000,
+            ..ticket
+        };
         let broken = Ticket {
-            tare: 1_048_575,
+            gross: 109_999,
             ..ticket
         };
         let mut tape = [0; 25 + 3 * 13];
@@ -457,8 +461,8 @@ mod tests {
         let done = |bytes, steps| Ok(Done { bytes, steps });
         assert_eq!(writer.start(&KEY, head, &mut tape), done(9, 1_864));
         assert_eq!(writer.add(&broken, &mut tape), Err(4));
-        for i in 0..3 {
-            let answer = writer.add(&ticket, &mut tape[9 + 13 * i..]);
+        for (i, ticket) in [ticket, empty_trip, ticket].iter().enumerate() {
+            let answer = writer.add(ticket, &mut tape[9 + 13 * i..]);
             assert_eq!(answer, done(13, 1_864 + 256 + 104 * (i as u64 + 1)));
         }
         assert_eq!(writer.finish(&mut tape[49..]), Err(6));
@@ -467,7 +471,7 @@ mod tests {
 
         let mut plain = [0; 39];
         let opened = haul_tape::open_tape(&KEY, &tape, &mut plain).unwrap();
-        assert_eq!((opened.tickets, opened.net), (3, 3 * 938_575));
+        assert_eq!((opened.tickets, opened.net), (3, 2 * 938_575));
 
         let mut out = [0; 39];
         assert_eq!(open_tape(&KEY, &tape, &mut out), Ok((3, opened.net)));
@@ -476,5 +480,11 @@ mod tests {
         assert_eq!(open_tape(&KEY, &tape[1..], &mut out), Err(2));
         tape[20] ^= 1;
         assert_eq!(open_tape(&KEY, &tape, &mut out), Err(7));
+
+        plain[25] += 1 << 2; // a kilogram more to the empty trip's tare
+        let head = head.pack().unwrap();
+        seal(&KEY, &nonce_of(&head), &head, &plain, &mut tape[9..]);
+        assert!(haul_tape::open_tape(&KEY, &tape, &mut out).is_err_and(|e| e.number() == 8));
+        assert_eq!(open_tape(&KEY, &tape, &mut out), Err(8));
     }
 }

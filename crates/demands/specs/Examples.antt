@@ -18,8 +18,7 @@ use Rattle.tape_model.specs.declared.WriterPhase.the-variants.{Closed}
 use Rattle.tape_model.specs.Ticket.{ticketLength, headLength, packHead}
 use Rattle.tape_model.specs.Tape.{tapeTagLength, nonceOf, openTape}
 use Rattle.tape_model.specs.Writer.{PlainWriter, WriterCall, start, add, finish}
-use Rattle.tape_model.specs.Cases.{ticketWith}
-use Rattle.tape_model.specs.RefusalCases.{goodHead, goodTicket}
+use Rattle.tape_model.specs.RefusalCases.{goodHead, goodTicket, badTicket, emptyTrip}
 use Rattle.session.specs.declared.Session.{Session}
 use Rattle.session.specs.declared.Reply.{Reply as SessionReply}
 use Rattle.session.specs.Contracts.{machineOf, Called}
@@ -121,9 +120,9 @@ pub record SessionExamples : Type 0 where
 abbrev pub SomeWriter : List WriterCall → (List (Entry WriterCall Work) → PlainWriter → Type 0) → Type 0
 SomeWriter cs P = (es : List (Entry WriterCall Work)) × (e : Writer) × WriterList es e × (callsOf es ≡ cs) × P es (writerOf e)
 
--- the head of case (i), and the ticket of case (h)
+-- the head of case (i), the ticket of case (h), and an empty trip
 abbrev pub writerCalls : (key out ticketOut tagOut : List ℕ) → List WriterCall
-writerCalls key out ticketOut tagOut = start key goodHead out ∷ add goodTicket ticketOut ∷ finish tagOut ∷ []
+writerCalls key out ticketOut tagOut = start key goodHead out ∷ add goodTicket ticketOut ∷ add emptyTrip ticketOut ∷ finish tagOut ∷ []
 
 abbrev pub refusedWriterCalls : List WriterCall
 refusedWriterCalls =
@@ -132,7 +131,7 @@ refusedWriterCalls =
     ∷ start (replicate 16 0) (record { device = 0; shift = 2; sheet = 1 }) []
     ∷ start (replicate 16 0) goodHead []
     ∷ start (replicate 16 0) goodHead (replicate 9 0)
-    ∷ add (ticketWith 3600 4200 250000 250000) []
+    ∷ add badTicket []
     ∷ []
 
 pub record WriterExamples : Type 0 where

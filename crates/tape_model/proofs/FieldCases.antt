@@ -1,10 +1,10 @@
 -- The cases of specs/FieldCases hold: each is computed.
 use mathlib.Core.Path.{refl}
-use Rattle.tape_model.specs.Ticket.{ordered, valuesRule}
+use Rattle.tape_model.specs.Ticket.{ordered, valuesRule, ticketRule}
 use Rattle.tape_model.specs.FieldCases.{FieldCases}
 
 pub field-cases : FieldCases
-unfolding valuesRule ordered
+unfolding ticketRule valuesRule ordered
 field-cases =
     record {
       form = (refl, refl);
@@ -16,6 +16,13 @@ field-cases =
       tipped = (refl, refl);
       gross = (refl, refl);
       tare = (refl, refl);
+      weights = (refl, refl);
+      empty-form = (refl, refl);
+      empty-truck = (refl, refl);
+      empty-grade = (refl, refl);
+      empty-loaded = (refl, refl);
+      empty-tipped = (refl, refl);
+      empty-spare = (refl, refl);
       spare = (refl, refl);
       device = (refl, refl);
       shift = (refl, refl);

@@ -16,3 +16,5 @@ pub mod Exact
 pub mod Plain
 pub mod Listing
 pub mod Refusals
+pub mod EmptyTrips
+pub mod EarlierRules

@@ -1,12 +1,12 @@
 -- Ranges and rules as facts on numbers, and strings of bytes as values that fit.
 use Prim.Native.Nat.{ℕ, zero, suc, _≤_, _<_, _^_}
-use mathlib.Core.Path.{_≡_, refl, ap, _∙_}
-use mathlib.Core.Bool.{true, false≢true}
+use mathlib.Core.Path.{_≡_, refl, ap, ap₂, _∙_}
+use mathlib.Core.Bool.{true, _&&_, false≢true}
 use mathlib.Core.List.{List, [], _∷_}
 use native.Mathlib.Omega.{arith}
 use lib.Dec.{leb}
 use lib.ListN.{length, length-replicate}
-use borrow.Author.Tests.{leb-true}
+use borrow.Author.Tests.{leb-true, le-leb}
 use Rattle.calls.specs.Calls.{AreBytes}
 use Rattle.calls.proofs.Choices.{both}
 use Rattle.tape_model.specs.Format.{Field, _bits_to_, widths, inRange, inRanges, join, cut, Fit, byteWidths, pack}
@@ -31,6 +31,16 @@ in-ranges [] [] h = tt
 in-ranges [] (v ∷ vs) h = absurd (false≢true h)
 in-ranges (f ∷ fs) [] h = absurd (false≢true h)
 in-ranges (f ∷ fs) (v ∷ vs) h = let p = both (inRange f v) (inRanges fs vs) h in (in-range f v (p .0), in-ranges fs vs (p .1))
+
+-- and back
+ranges-in-one : (f : Field) (v : ℕ) → InRange f v → inRange f v ≡ true
+ranges-in-one (width bits low to high) v r = ap₂ _&&_ (le-leb low v (r .0)) (le-leb v high (r .1))
+
+pub ranges-in : (fs : List Field) (vs : List ℕ) → InRanges fs vs → inRanges fs vs ≡ true
+ranges-in [] [] r = refl
+ranges-in [] (v ∷ vs) r = absurd r
+ranges-in (f ∷ fs) [] r = absurd r
+ranges-in (f ∷ fs) (v ∷ vs) r = ap₂ _&&_ (ranges-in-one f v (r .0)) (ranges-in fs vs (r .1))
 
 -- each field has the bits for its highest value
 abbrev pub Roomy : List Field → Type 0

@@ -7,8 +7,8 @@ use borrow.Author.Tests.{eqb-true}
 use Rattle.calls.specs.Calls.{mapReply, unlessRefused, resultOf}
 use Rattle.calls.proofs.Choices.{both}
 use Rattle.acorn_model.proofs.StepCases.{same}
-use Rattle.tape_model.specs.Ticket.{ordered, valuesRule, ticketRule, packTicket, unpackTicket, packTicketInto, headRule, packHead, unpackHead, packHeadInto}
-use Rattle.tape_model.specs.Tape.{isTicketsLength, unpackTickets, plainTickets, ofPlain, plainTotals, isTapeLength, openTapeRefusal}
+use Rattle.tape_model.specs.Ticket.{ordered, valuesRule, ticketRule, net, packTicket, unpackTicket, packTicketInto, headRule, packHead, unpackHead, packHeadInto}
+use Rattle.tape_model.specs.Tape.{isTicketsLength, totalNet, unpackTickets, plainTickets, ofPlain, plainTotals, isTapeLength, openTapeRefusal}
 use Rattle.tape_model.specs.Writer.{phaseAllows, keyRight, headRight, ticketRight, tapeFull, outputShort, refusal}
 use Rattle.tape_model.specs.Reader.{handedOut, readNext}
 use Rattle.tape_model.specs.RefusalCases.{writerWith, RefusalCase, writes, opens, sizes, Gets, AllGet, tapeRefusalCases, ReaderCases, PackingCases}
@@ -36,10 +36,10 @@ unfolding refusal phaseAllows keyRight headRight ticketRight tapeFull outputShor
 refusal-cases = shown-all tapeRefusalCases refl
 
 pub reader-cases : ReaderCases
-unfolding readNext handedOut plainTotals ofPlain mapReply plainTickets unpackTickets isTicketsLength unpackTicket unlessRefused packTicket valuesRule ordered
-reader-cases = record { too-short = refl; not-whole = refl; bad = refl; bad-first = refl; bad-second = refl; no-totals = (refl, refl) }
+unfolding readNext handedOut plainTotals totalNet net ofPlain mapReply plainTickets unpackTickets isTicketsLength unpackTicket unlessRefused packTicket valuesRule ordered
+reader-cases = record { too-short = refl; not-whole = refl; bad = refl; bad-first = refl; bad-second = refl; tare-above = refl; empty-trip = refl; empty-trip-totals = refl; no-totals = (refl, refl, refl) }
 
 pub packing-cases : PackingCases
-unfolding packTicketInto packHeadInto resultOf unlessRefused ticketRule valuesRule ordered headRule packHead unpackTicket unpackHead
+unfolding packTicketInto packHeadInto resultOf unlessRefused ticketRule valuesRule ordered headRule packHead packTicket unpackTicket unpackHead
 packing-cases =
-    record { bad-ticket = refl; ticket-room = (refl, refl); bad-head = refl; head-room = (refl, refl); ticket-size = (refl, refl); head-size = (refl, refl); head-range = refl }
+    record { bad-ticket = refl; empty-trip = (refl, refl); case-l = refl; tare-above = refl; ticket-room = (refl, refl); bad-head = refl; head-room = (refl, refl); ticket-size = (refl, refl); head-size = (refl, refl); head-range = refl }

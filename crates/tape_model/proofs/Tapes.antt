@@ -22,7 +22,7 @@ use Rattle.tape_model.specs.Tape.{ticketLimit, nonceOf, packTickets, tap
 use Rattle.tape_model.specs.Reader.{ticket, atEnd, Reader, readerOver, readNext, stays, handedOut}
 use Rattle.tape_model.specs.Listing.{headLine, ticketLines, lineOfTotals, totalLine, listed, listingUnless, listing, printed}
 use Rattle.tape_model.specs.Laws.{Valid, readings, readerAfter, asReadings, TapeLaws, TapesComeBack, tapeWithText, BadTickets}
-use Rattle.tape_model.specs.RefusalCases.{goodHead, lastByteC1}
+use Rattle.tape_model.specs.RefusalCases.{goodHead, badTicket, lastByteC1}
 use Rattle.tape_model.proofs.Ranges.{pack-bytes}
 use Rattle.tape_model.proofs.Tickets.{ticket-inverse, head-inverse, ticket-length, ticket-bytes, head-length}
 use Rattle.tape_model.proofs.Unpacking.{sized-hold, refused-size}
@@ -263,5 +263,9 @@ last-byte-C1 key out k room =
     let bytes : AreBytes lastByteC1 = pack-bytes (widths (formatOf 1)) ticketLength (1 ∷ 5 ∷ 2 ∷ 3 ∷ 4 ∷ 3600 ∷ 4200 ∷ 250000 ∷ 110000 ∷ 1 ∷ []) in
     eight key goodHead lastByteC1 out k refl bytes room refl
 
+tare-above : (key out : List ℕ) → length key ≡ keyLength → 13 ≤ length out → openTape key (tapeWithText key goodHead (packTicket badTicket)) out ≡ record { answer = refused 8; out = out }
+unfolding headRule plainTickets isTicketsLength unpackTickets unpackTicket unlessRefused packTicket valuesRule ordered
+tare-above key out k room = eight key goodHead (packTicket badTicket) out k refl (ticket-bytes badTicket) room refl
+
 pub bad-tickets : BadTickets
-bad-tickets = record { eight = eight; last-byte-C1 = last-byte-C1 }
+bad-tickets = record { eight = eight; last-byte-C1 = last-byte-C1; tare-above = tare-above }

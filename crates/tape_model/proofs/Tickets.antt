@@ -1,12 +1,12 @@
 -- Tickets and heads: packing and unpacking undo each other, what is packed is so many bytes, and what the rules say as facts on numbers.
-use Prim.Native.Nat.{ℕ, suc, _+_, _-_, _*_, _/_, _%_, _^_, _≤_, _<_}
+use Prim.Native.Nat.{ℕ, suc, _+_, _-_, _*_, _/_, _%_, _^_, _≤_}
 use mathlib.Core.Path.{_≡_, refl, sym, ap, subst, _∙_}
 use mathlib.Core.Bool.{true}
 use mathlib.Core.List.{List, [], _∷_, _++_}
 use native.Mathlib.Omega.{arith}
-use lib.Dec.{leb, ltb, eqb}
+use lib.Dec.{leb, eqb}
 use lib.ListN.{length, getD}
-use borrow.Author.Tests.{eqb-true, leb-true, ltb-true}
+use borrow.Author.Tests.{eqb-true, leb-true}
 use Rattle.calls.specs.Calls.{AreBytes, done}
 use Rattle.calls.proofs.Choices.{both}
 use Rattle.tape_model.specs.declared.Ticket.{Ticket}
@@ -22,13 +22,13 @@ use Rattle.tape_model.proofs.Inverses.{unpack-passed, Laid, inverse, in
 
 -- ## The rules
 
-pub in-order : (t : Ticket) → ordered t ≡ true → (t .loaded ≤ t .tipped) × (t .tare < t .gross)
+pub in-order : (t : Ticket) → ordered t ≡ true → (t .loaded ≤ t .tipped) × (t .tare ≤ t .gross)
 unfolding ordered
 in-order t h =
-    let p = both (leb (t .loaded) (t .tipped)) (ltb (t .tare) (t .gross)) h in
-    (leb-true _ _ (p .0), ltb-true _ _ (p .1))
+    let p = both (leb (t .loaded) (t .tipped)) (leb (t .tare) (t .gross)) h in
+    (leb-true _ _ (p .0), leb-true _ _ (p .1))
 
-pub ticket-rule : (t : Ticket) → ticketRule t ≡ true → InRanges (formatOf (t .form)) (ticketValues t) × (t .loaded ≤ t .tipped) × (t .tare < t .gross)
+pub ticket-rule : (t : Ticket) → ticketRule t ≡ true → InRanges (formatOf (t .form)) (ticketValues t) × (t .loaded ≤ t .tipped) × (t .tare ≤ t .gross)
 unfolding ticketRule valuesRule
 ticket-rule t h =
     let p = both (inRanges (formatOf (t .form)) (ticketValues t)) (ordered t) h in

@@ -11,8 +11,8 @@ use borrow.Author.Tests.{eq-eqb, eqb-true, leb-true}
 use Rattle.calls.specs.Calls.{_if_else_, Reply, refused, done, accepted, unlessRefused, replyOf, isRefused}
 use Rattle.calls.proofs.Choices.{both}
 use Rattle.tape_model.specs.declared.Ticket.{Ticket}
-use Rattle.tape_model.specs.Ticket.{ticketLength, ticketOf, valuesRule, ticketValuesIn, unpackTicket}
-use Rattle.tape_model.specs.Tape.{ticketLimit, isTicketsLength, ticketThen, unpackTickets, plainTickets, ticketsIn}
+use Rattle.tape_model.specs.Ticket.{ticketLength, ticketOf, Rule, ruleInForce, ticketValuesUnder, unpackTicketUnder, unpackTicket}
+use Rattle.tape_model.specs.Tape.{ticketLimit, isTicketsLength, ticketThen, unpackTicketsBy, unpackTickets, plainTickets, ticketsIn}
 
 -- where tickets unpack, the first does and the others do
 pub taken-apart : (P : List Ticket → Type 0) (r : Reply Ticket) (others : Reply (List Ticket)) (ts : List Ticket) → ticketThen r others ≡ done ts
@@ -28,35 +28,48 @@ unpacked-count (suc n) s ts e =
     taken-apart (λ l. length l ≡ suc n) (unpackTicket (take 13 s)) (unpackTickets n (drop 13 s)) ts e
     (λ t us f g. ap suc (unpacked-count n (drop 13 s) us g))
 
--- the ticket at i; the default does not count
+-- ## Under any rule
+
+module _ (rule : Rule) where
+  abbrev one : List ℕ → Reply Ticket
+  one = unpackTicketUnder rule
+
+  -- the ticket at i; the default does not count
+  pub at-under : (n i : ℕ) (s : List ℕ) (ts : List Ticket) (t₀ : Ticket) → i < n → unpackTicketsBy one n s ≡ done ts → one (take 13 (drop (13 * i) s)) ≡ done (getD ts i t₀)
+  at-under zero i s ts t₀ h e = absurd (omega arith)
+  at-under (suc n) zero s ts t₀ h e =
+      taken-apart (λ l. one (take 13 s) ≡ done (getD l 0 t₀)) (one (take 13 s)) (unpackTicketsBy one n (drop 13 s)) ts e (λ t us f g. f)
+  at-under (suc n) (suc i) s ts t₀ h e =
+      taken-apart (λ l. one (take 13 (drop (13 * suc i) s)) ≡ done (getD l (suc i) t₀)) (one (take 13 s)) (unpackTicketsBy one n (drop 13 s)) ts e
+      (λ t us f g. ap (λ (l : List ℕ). one (take 13 l)) (ap (λ (k : ℕ). drop k s) {x = 13 * suc i} {y = 13 + 13 * i} (omega arith) ∙ sym (drop-drop (13 * i) 13 s)) ∙ at-under n i (drop 13 s) us t₀ (omega arith) g)
+
+  -- 13 bytes are refused for their values alone
+  pub by-8-under : (s : List ℕ) (n : ℕ) → length s ≡ 13 → refused n ≡ one s → n ≡ 8
+  unfolding unlessRefused
+  by-8-under s n e r = by (ticketOf (ticketValuesUnder rule s)) (rule .allows (ticketValuesUnder rule s)) (rw (eq-eqb (length s) 13 e) at r)
+    where
+      by : (t : Ticket) (b : Bool) → refused n ≡ replyOf (8 if not b else accepted) t → n ≡ 8
+      by t true h = let z : _≡_ {A = ℕ} 0 1 = cc in absurd (omega arith)
+      by t false h = cc
+
+  -- and so are the bytes of n tickets
+  pub tickets-by-8 : (n : ℕ) (s : List ℕ) (k : ℕ) → 13 * n ≤ length s → unpackTicketsBy one n s ≡ refused k → k ≡ 8
+  tickets-by-8 zero s k long e = let z : _≡_ {A = ℕ} 0 1 = cc in absurd (omega arith)
+  tickets-by-8 (suc n) s k long e = by (one (take 13 s)) (unpackTicketsBy one n (drop 13 s)) refl (λ m. tickets-by-8 n (drop 13 s) m (omega (arith, length-drop 13 s))) e
+    where
+      by : (r : Reply Ticket) (others : Reply (List Ticket)) → r ≡ one (take 13 s) → ((m : ℕ) → others ≡ refused m → m ≡ 8) → ticketThen r others ≡ refused k → k ≡ 8
+      by (refused m) others u v h = let same : m ≡ k = cc in sym same ∙ by-8-under (take 13 s) m (length-take-le 13 s (omega arith)) u
+      by (done t) (refused m) u v h = let same : m ≡ k = cc in sym same ∙ v m refl
+      by (done t) (done ts) u v h = let z : _≡_ {A = ℕ} 0 1 = cc in absurd (omega arith)
+
+-- under the one in force
 pub unpacked-at : (n i : ℕ) (s : List ℕ) (ts : List Ticket) (t₀ : Ticket) → i < n → unpackTickets n s ≡ done ts → unpackTicket (take 13 (drop (13 * i) s)) ≡ done (getD ts i t₀)
-unfolding unpackTickets
-unpacked-at zero i s ts t₀ h e = absurd (omega arith)
-unpacked-at (suc n) zero s ts t₀ h e =
-    taken-apart (λ l. unpackTicket (take 13 s) ≡ done (getD l 0 t₀)) (unpackTicket (take 13 s)) (unpackTickets n (drop 13 s)) ts e (λ t us f g. f)
-unpacked-at (suc n) (suc i) s ts t₀ h e =
-    taken-apart (λ l. unpackTicket (take 13 (drop (13 * suc i) s)) ≡ done (getD l (suc i) t₀)) (unpackTicket (take 13 s)) (unpackTickets n (drop 13 s)) ts e
-    (λ t us f g. ap (λ (l : List ℕ). unpackTicket (take 13 l)) (ap (λ (k : ℕ). drop k s) {x = 13 * suc i} {y = 13 + 13 * i} (omega arith) ∙ sym (drop-drop (13 * i) 13 s)) ∙ unpacked-at n i (drop 13 s) us t₀ (omega arith) g)
+unfolding unpackTickets unpackTicket
+unpacked-at = at-under ruleInForce
 
--- 13 bytes are refused for their values alone
 pub refused-by-8 : (s : List ℕ) (n : ℕ) → length s ≡ 13 → refused n ≡ unpackTicket s → n ≡ 8
-unfolding unpackTicket unlessRefused
-refused-by-8 s n e r = by (ticketOf (ticketValuesIn s)) (valuesRule (ticketValuesIn s)) (rw (eq-eqb (length s) 13 e) at r)
-  where
-    by : (t : Ticket) (b : Bool) → refused n ≡ replyOf (8 if not b else accepted) t → n ≡ 8
-    by t true h = let z : _≡_ {A = ℕ} 0 1 = cc in absurd (omega arith)
-    by t false h = cc
-
--- and so are the bytes of n tickets
-tickets-by-8 : (n : ℕ) (s : List ℕ) (k : ℕ) → 13 * n ≤ length s → unpackTickets n s ≡ refused k → k ≡ 8
-unfolding unpackTickets
-tickets-by-8 zero s k long e = let z : _≡_ {A = ℕ} 0 1 = cc in absurd (omega arith)
-tickets-by-8 (suc n) s k long e = by (unpackTicket (take 13 s)) (unpackTickets n (drop 13 s)) refl (λ m. tickets-by-8 n (drop 13 s) m (omega (arith, length-drop 13 s))) e
-  where
-    by : (r : Reply Ticket) (others : Reply (List Ticket)) → r ≡ unpackTicket (take 13 s) → ((m : ℕ) → others ≡ refused m → m ≡ 8) → ticketThen r others ≡ refused k → k ≡ 8
-    by (refused m) others u v h = let same : m ≡ k = cc in sym same ∙ refused-by-8 (take 13 s) m (length-take-le 13 s (omega arith)) u
-    by (done t) (refused m) u v h = let same : m ≡ k = cc in sym same ∙ v m refl
-    by (done t) (done ts) u v h = let z : _≡_ {A = ℕ} 0 1 = cc in absurd (omega arith)
+unfolding unpackTicket
+refused-by-8 = by-8-under ruleInForce
 
 -- ## What opened bytes hold
 
@@ -100,7 +113,8 @@ module _ (s : List ℕ) where
       (omega (arith, c, eqb-true (length s % ticketLength) 0 (p .0)), omega (arith, c, leb-true (length s / ticketLength) ticketLimit (p .1)))
 
   pub only-8 : (n : ℕ) → plainTickets s ≡ refused n → isTicketsLength (length s) ≡ true → n ≡ 8
-  only-8 n e h = tickets-by-8 (length s / ticketLength) s n (omega arith) (sym (sized-hold h) ∙ e)
+  unfolding unpackTickets unpackTicket
+  only-8 n e h = tickets-by-8 ruleInForce (length s / ticketLength) s n (omega arith) (sym (sized-hold h) ∙ e)
 
   -- another number than 2 is for bytes of a right size
   pub refused-size : (n : ℕ) → plainTickets s ≡ refused n → (n ≡ 2 → ⊥) → isTicketsLength (length s) ≡ true

@@ -55,6 +55,6 @@ cases =
     ∷ valid (ticketWith 3600 43200 250000 110000) false
     -- (k)
     ∷ valid (ticketWith 4200 4200 250000 110000) true
-    -- (l)
-    ∷ valid (ticketWith 3600 4200 250000 250000) false
+    -- (l), as P2 of document 02 amends it
+    ∷ valid (ticketWith 3600 4200 250000 250000) true
     ∷ []

@@ -18,7 +18,7 @@ use Rattle.tape_model.specs.Writer.{PlainWriter, WriterCall, start, add,
 use Rattle.tape_model.specs.Reader.{Reading, ticket, atEnd, Reader, readerOver, readNext}
 use Rattle.tape_model.specs.Listing.{decimal, headLine, ticketLines, lineOfTotals, totalLine, refusedLine, listed, listing, printed, exampleText, secondTicket, twoTicketsText, refusedText}
 use Rattle.tape_model.specs.Cases.{ticketWith}
-use Rattle.tape_model.specs.RefusalCases.{goodHead, lastByteC1}
+use Rattle.tape_model.specs.RefusalCases.{goodHead, badTicket, lastByteC1}
 
 -- ## Formats, over every list of widths
 
@@ -182,6 +182,9 @@ pub record BadTickets : Type 0 where
   -- document 01's example
   pub last-byte-C1 : (key out : List ℕ) → length key ≡ keyLength → 13 ≤ length out
       → openTape key (tapeWithText key goodHead lastByteC1) out ≡ record { answer = refused 8; out = out }
+  -- tare 6, gross 5
+  pub tare-above : (key out : List ℕ) → length key ≡ keyLength → 13 ≤ length out
+      → openTape key (tapeWithText key goodHead (packTicket badTicket)) out ≡ record { answer = refused 8; out = out }
 
 -- ## The plain writer
 

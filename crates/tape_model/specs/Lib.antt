@@ -10,3 +10,5 @@ pub mod RefusalExamples
 pub mod FieldCases
 pub mod RefusalCases
 pub mod Laws
+pub mod EmptyTrips
+pub mod EarlierRules

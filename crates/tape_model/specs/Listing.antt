@@ -75,11 +75,15 @@ unfoldable pub listed : Reply Head → List Ticket → List ℕ
 listed (refused n) ts = refusedLine n
 listed (done h) ts = headLine h ++ ticketLines 1 ts ++ totalLine ts
 
--- by the number that refuses to open the tape, into room enough for its plain bytes: the listing, or the refusal alone
-unfoldable pub listingUnless : ℕ → List ℕ → List ℕ → List ℕ
-listingUnless zero key tape = listed (unpackHead (headBytes tape)) (ticketsIn (plainTickets (plainBytes key tape)))
-listingUnless (suc n) key tape = refusedLine (suc n)
+-- by the number that refuses to open the tape: the tape's head and these tickets listed, or the refusal alone
+abbrev pub listedUnless : ℕ → Reply (List Ticket) → List ℕ → List ℕ
+listedUnless zero tickets tape = listed (unpackHead (headBytes tape)) (ticketsIn tickets)
+listedUnless (suc n) tickets tape = refusedLine (suc n)
 
+unfoldable pub listingUnless : ℕ → List ℕ → List ℕ → List ℕ
+listingUnless number key tape = listedUnless number (plainTickets (plainBytes key tape)) tape
+
+-- the tape is opened into room enough for its plain bytes
 unfoldable pub listing : List ℕ → List ℕ → List ℕ
 listing key tape = listingUnless (openTapeRefusal key tape (replicate (length tape) 0)) key tape
 

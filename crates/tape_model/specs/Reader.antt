@@ -37,12 +37,15 @@ unfoldable pub handedOut : Reply Ticket → Reader → ReadOutcome
 handedOut (refused n) r = stays r (refused n)
 handedOut (done t) r = record { next = record { string = r .string; position = r .position + 1 }; answer = done (ticket t) }
 
--- the next ticket: 2 where the bytes are not 13n, with n at most 5,000; 8 where a ticket does not unpack
-unfoldable pub readNext : Reader → ReadOutcome
-readNext r =
+-- the next ticket, by what the bytes of one unpack to: 2 where the bytes are not 13n, with n at most 5,000; 8 where a ticket does not unpack
+abbrev pub readNextBy : (List ℕ → Reply Ticket) → Reader → ReadOutcome
+readNextBy one r =
     stays r (refused 2) if not (isTicketsLength (length (r .string))) else
     stays r (done atEnd) if leb (length (r .string) / ticketLength) (r .position) else
-    handedOut (unpackTicket (take ticketLength (drop (ticketLength * r .position) (r .string)))) r
+    handedOut (one (take ticketLength (drop (ticketLength * r .position) (r .string)))) r
+
+unfoldable pub readNext : Reader → ReadOutcome
+readNext r = readNextBy unpackTicket r
 
 -- document 01's number and values for each case of the answer in code
 unfoldable pub nextReply : NextTicket → Reply Reading

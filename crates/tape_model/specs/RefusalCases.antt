@@ -15,14 +15,15 @@ use Rattle.tape_model.specs.declared.WriterPhase.the-variants.{Fresh, Op
 use Rattle.tape_model.specs.Ticket.{packTicket, unpackTicket, packTicketInto, packHead, unpackHead, packHeadInto}
 use Rattle.tape_model.specs.Tape.{isTicketsLength, plainTotals, isTapeLength, openTapeRefusal}
 use Rattle.tape_model.specs.Writer.{PlainWriter, WriterCall, start, add, finish, refusal}
-use Rattle.tape_model.specs.Reader.{Reader, stays, readNext}
+use Rattle.tape_model.specs.Reader.{Reader, ticket, stays, readNext}
 use Rattle.tape_model.specs.Cases.{ticketWith}
 
 -- a plain writer in this phase with so many tickets
 abbrev pub writerWith : WriterPhase → ℕ → PlainWriter
 writerWith phase tickets = record { machine = fresh Sealing; phase = phase; tickets = tickets }
 
--- the head of case (i), and one with these values; the ticket of case (h), and the one of the table's example, tare 5 and gross 5
+-- the head of case (i), and one with these values; the ticket of case (h), the one of the table's example, tare 6 and gross 5 (P2 of
+-- document 02), and an empty trip
 abbrev pub headWith : ℕ → ℕ → ℕ → Head
 headWith device shift sheet = record { device = device; shift = shift; sheet = sheet }
 
@@ -33,7 +34,10 @@ abbrev pub goodTicket : Ticket
 goodTicket = ticketWith 3600 4200 250000 110000
 
 abbrev pub badTicket : Ticket
-badTicket = ticketWith 3600 4200 5 5
+badTicket = ticketWith 3600 4200 5 6
+
+abbrev pub emptyTrip : Ticket
+emptyTrip = ticketWith 3600 4200 5 5
 
 -- a call of such a writer, and the number; opening of a tape into an output, and the number; whether so many bytes are a tape's, or a reader's
 pub data RefusalCase : Type 0 where
@@ -81,6 +85,9 @@ tapeRefusalCases =
     ∷ opens (string 16) (packHead (headWith 7 2 1000001) ++ string 16) [] 3
     -- 4
     ∷ writes Open 0 (add badTicket (string 13)) 4
+    ∷ writes Open 0 (add emptyTrip (string 13)) accepted
+    ∷ writes Open 0 (add (ticketWith 3600 4200 0 0) (string 13)) accepted
+    ∷ writes Open 0 (add (ticketWith 3600 4200 0 1) (string 13)) 4
     -- 5
     ∷ writes Open 4999 (add goodTicket (string 13)) accepted
     ∷ writes Open 5000 (add goodTicket (string 13)) 5
@@ -100,6 +107,8 @@ tapeRefusalCases =
     ∷ writes Fresh 5000 (add badTicket []) 1
     ∷ writes Open 5000 (add badTicket []) 4
     ∷ writes Open 5000 (add goodTicket []) 5
+    ∷ writes Open 5000 (add emptyTrip []) 5
+    ∷ writes Open 0 (add emptyTrip (string 12)) 6
     ∷ writes Fresh 0 (finish []) 1
     ∷ opens [] (string 25) [] 2
     ∷ opens (string 16) (string 38) [] 3
@@ -119,11 +128,19 @@ pub record ReaderCases : Type 0 where
   pub bad : unpackTicket lastByteC1 ≡ refused 8
   pub bad-first : readNext (readerWith lastByteC1 0) ≡ stays (readerWith lastByteC1 0) (refused 8)
   pub bad-second : readNext (readerWith (packTicket goodTicket ++ lastByteC1) 1) ≡ stays (readerWith (packTicket goodTicket ++ lastByteC1) 1) (refused 8)
-  pub no-totals : (plainTotals (string 12) ≡ refused 2) × (plainTotals lastByteC1 ≡ refused 8)
+  -- tare above gross, and an empty trip
+  pub tare-above : readNext (readerWith (packTicket badTicket) 0) ≡ stays (readerWith (packTicket badTicket) 0) (refused 8)
+  pub empty-trip : readNext (readerWith (packTicket emptyTrip) 0) ≡ record { next = readerWith (packTicket emptyTrip) 1; answer = done (ticket emptyTrip) }
+  pub empty-trip-totals : plainTotals (packTicket emptyTrip) ≡ done (record { tickets = 1; net = 0 })
+  pub no-totals : (plainTotals (string 12) ≡ refused 2) × (plainTotals lastByteC1 ≡ refused 8) × (plainTotals (packTicket badTicket) ≡ refused 8)
 
 -- tickets and heads packed into lent bytes, and unpacked, by themselves
 pub record PackingCases : Type 0 where
   pub bad-ticket : packTicketInto badTicket [] .answer ≡ refused 4
+  pub empty-trip : (packTicketInto emptyTrip (string 13) .answer ≡ done 13) × (unpackTicket (packTicket emptyTrip) ≡ done emptyTrip)
+  -- case (l)'s bytes
+  pub case-l : packTicket (ticketWith 3600 4200 250000 250000) ≡ 0x10 ∷ 0x14 ∷ 0x20 ∷ 0xD0 ∷ 0x38 ∷ 0x40 ∷ 0x41 ∷ 0xA0 ∷ 0xF4 ∷ 0x24 ∷ 0x0F ∷ 0x42 ∷ 0x40 ∷ []
+  pub tare-above : unpackTicket (packTicket badTicket) ≡ refused 8
   pub ticket-room : (packTicketInto goodTicket (string 12) .answer ≡ refused 6) × (packTicketInto goodTicket (string 13) .answer ≡ done 13)
   pub bad-head : packHeadInto (headWith 0 2 1) [] .answer ≡ refused 3
   pub head-room : (packHeadInto goodHead (string 8) .answer ≡ refused 6) × (packHeadInto goodHead (string 9) .answer ≡ done 9)

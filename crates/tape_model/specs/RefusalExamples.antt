@@ -69,7 +69,7 @@ rows =
     ∷ tape (string 16) (string 37) (string 12) gives 2
     -- device 0
     ∷ writer Fresh 0 (start (string 16) (headWith 0 2 1) (string 9)) gives 3
-    -- tare 5, gross 5
+    -- tare 6, gross 5, as P2 of document 02 amends it
     ∷ writer Open 0 (add badTicket (string 13)) gives 4
     -- 65,537 bytes of text, by session and whole
     ∷ machine Sealing (begins ∷ []) (sealText (string 65537) []) gives 5

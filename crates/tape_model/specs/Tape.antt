@@ -50,14 +50,20 @@ ticketThen (refused n) others = refused n
 ticketThen (done t) (refused n) = refused n
 ticketThen (done t) (done ts) = done (t ∷ ts)
 
--- the n tickets in plain bytes
-unfoldable pub unpackTickets : ℕ → List ℕ → Reply (List Ticket)
-unpackTickets zero string = done []
-unpackTickets (suc n) string = ticketThen (unpackTicket (take ticketLength string)) (unpackTickets n (drop ticketLength string))
+-- the n tickets in plain bytes, by what the bytes of one unpack to
+abbrev pub unpackTicketsBy : (List ℕ → Reply Ticket) → ℕ → List ℕ → Reply (List Ticket)
+unpackTicketsBy one zero string = done []
+unpackTicketsBy one (suc n) string = ticketThen (one (take ticketLength string)) (unpackTicketsBy one n (drop ticketLength string))
 
--- the tickets that opened bytes hold: 2 for a wrong length, 8 where a ticket does not unpack
+unfoldable pub unpackTickets : ℕ → List ℕ → Reply (List Ticket)
+unpackTickets n string = unpackTicketsBy unpackTicket n string
+
+-- the tickets that opened bytes hold, by what the bytes unpack to: 2 for a wrong length, 8 where a ticket does not unpack
+abbrev pub plainTicketsBy : Reply (List Ticket) → List ℕ → Reply (List Ticket)
+plainTicketsBy tickets string = refused 2 if not (isTicketsLength (length string)) else tickets
+
 unfoldable pub plainTickets : List ℕ → Reply (List Ticket)
-plainTickets string = refused 2 if not (isTicketsLength (length string)) else unpackTickets (length string / ticketLength) string
+plainTickets string = plainTicketsBy (unpackTickets (length string / ticketLength) string) string
 
 -- a function of tickets, taken of those that opened bytes hold: 2 and 8 as above
 unfoldable pub ofPlain : {A : Type 0} → (List Ticket → A) → List ℕ → Reply A
@@ -109,18 +115,25 @@ module _ (key tape : List ℕ) where
   unfoldable pub plainBytes : List ℕ
   plainBytes = opened key (nonceOf (headBytes tape)) (headBytes tape) (sealedBytes tape)
 
-  unfoldable pub openTapeRefusal : List ℕ → ℕ
-  openTapeRefusal out =
+  -- by what the plain bytes unpack to
+  abbrev pub openTapeRefusalBy : Reply (List Ticket) → List ℕ → ℕ
+  openTapeRefusalBy tickets out =
       2 if not (eqb (length key) keyLength && isTapeLength (length tape)) else
       3 if isRefused (unpackHead (headBytes tape)) else
       6 if ltb (length out) (ticketLength * ticketCount tape) else
       7 if not (tagMatches key (nonceOf (headBytes tape)) (headBytes tape) (sealedBytes tape)) else
-      8 if isRefused (unpackTickets (ticketCount tape) plainBytes) else
+      8 if isRefused tickets else
       accepted
 
-  -- the plain bytes are written, and the number of tickets and their total net answered
+  unfoldable pub openTapeRefusal : List ℕ → ℕ
+  openTapeRefusal out = openTapeRefusalBy (unpackTickets (ticketCount tape) plainBytes) out
+
+  -- the plain bytes are written, and the number of tickets and their total net answered; or a number refuses
+  abbrev pub openTapeUnless : ℕ → Reply (List Ticket) → List ℕ → Result Totals
+  openTapeUnless number tickets out = resultOf number (record { tickets = ticketCount tape; net = totalNet (ticketsIn tickets) }) plainBytes out
+
   unfoldable pub openTape : List ℕ → Result Totals
-  openTape out = resultOf (openTapeRefusal out) (record { tickets = ticketCount tape; net = totalNet (ticketsIn (unpackTickets (ticketCount tape) plainBytes)) }) plainBytes out
+  openTape out = openTapeUnless (openTapeRefusal out) (unpackTickets (ticketCount tape) plainBytes) out
 
 -- ## Document 01's number and values for each case of the answers in code
 

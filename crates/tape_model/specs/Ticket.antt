@@ -56,9 +56,9 @@ ticketOf vs =
       tare = getD vs 8 0;
     }
 
--- loaded at most tipped, and tare below gross
+-- loaded at most tipped, and tare at most gross (document 01 as P2 of document 02 amends it)
 unfoldable pub ordered : Ticket → Bool
-ordered t = leb (t .loaded) (t .tipped) && ltb (t .tare) (t .gross)
+ordered t = leb (t .loaded) (t .tipped) && leb (t .tare) (t .gross)
 
 -- the ticket rule, of values (the form first, the spare bits among them) and of a ticket
 unfoldable pub valuesRule : List ℕ → Bool
@@ -66,6 +66,15 @@ valuesRule vs = inRanges (formatOf (getD vs 0 0)) vs && ordered (ticketOf vs)
 
 unfoldable pub ticketRule : Ticket → Bool
 ticketRule t = valuesRule (ticketValues t)
+
+-- A ticket rule as a value: the fields of each form, and which values it allows. Unpacking is by a rule, so that what it gave under an earlier one can be said.
+pub record Rule : Type 0 where
+  pub fields : ℕ → List Field
+  pub allows : List ℕ → Bool
+
+-- the rule in force
+abbrev pub ruleInForce : Rule
+ruleInForce = record { fields = formatOf; allows = valuesRule }
 
 -- the rule for a ticket that is to be written: every valid one may be
 abbrev pub writeRule : Ticket → Bool
@@ -77,22 +86,33 @@ net t = t .gross - t .tare
 unfoldable pub packTicket : Ticket → List ℕ
 packTicket t = pack (widths (formatOf (t .form))) ticketLength (ticketValues t)
 
--- the form in packed bytes, which is their first four bits; and the values in them
+-- the form in packed bytes, which is their first four bits
 abbrev pub formIn : List ℕ → ℕ
 formIn string = getD string 0 0 / 16
 
-abbrev pub ticketValuesIn : List ℕ → List ℕ
-ticketValuesIn string = unpack (widths (formatOf (formIn string))) string
+module _ (rule : Rule) where
+  -- the values in packed bytes
+  abbrev pub ticketValuesUnder : List ℕ → List ℕ
+  ticketValuesUnder string = unpack (widths (rule .fields (formIn string))) string
 
--- the ticket in packed bytes: 2 for another size, 8 where the values break the rule
+  -- the ticket in packed bytes: 2 for another size, 8 where the values break the rule
+  abbrev pub unpackTicketRefusalUnder : List ℕ → ℕ
+  unpackTicketRefusalUnder string =
+      2 if not (eqb (length string) ticketLength) else
+      8 if not (rule .allows (ticketValuesUnder string)) else
+      accepted
+
+  abbrev pub unpackTicketUnder : List ℕ → Reply Ticket
+  unpackTicketUnder string = replyOf (unpackTicketRefusalUnder string) (ticketOf (ticketValuesUnder string))
+
+abbrev pub ticketValuesIn : List ℕ → List ℕ
+ticketValuesIn = ticketValuesUnder ruleInForce
+
 abbrev pub unpackTicketRefusal : List ℕ → ℕ
-unpackTicketRefusal string =
-    2 if not (eqb (length string) ticketLength) else
-    8 if not (valuesRule (ticketValuesIn string)) else
-    accepted
+unpackTicketRefusal = unpackTicketRefusalUnder ruleInForce
 
 unfoldable pub unpackTicket : List ℕ → Reply Ticket
-unpackTicket string = replyOf (unpackTicketRefusal string) (ticketOf (ticketValuesIn string))
+unpackTicket string = unpackTicketUnder ruleInForce string
 
 -- a ticket packed into lent bytes: 4, then 6
 abbrev pub packTicketRefusal : Ticket → List ℕ → ℕ

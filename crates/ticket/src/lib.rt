@@ -33,7 +33,7 @@ pub fn valid(t: Ticket) -> bool
         & (t.tipped <= 43199)
         & (t.gross <= 1048575)
         & (t.loaded <= t.tipped)
-        & (t.tare < t.gross)
+        & (t.tare <= t.gross)
 }
 
 // The rule for a ticket that is to be written.

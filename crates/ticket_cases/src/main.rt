@@ -1,4 +1,4 @@
-// Runs document 01's cases (h) to (l) on the code of tickets and heads, then totals of plain bytes, and prints what they give.
+// Runs cases (h) to (l) on the code of tickets and heads, then further weights and totals of plain bytes, and prints what they give.
 use calls::Written;
 use tape_model::Head;
 use tape_model::Ticket;
@@ -84,9 +84,14 @@ fn print_unpacked(answer: UnpackedTicket) {
     io::write_all(1, b"\n");
 }
 
+// A ticket packed.
+fn print_packing(t: Ticket, out: &mut [u8]) {
+    print_packed(ticket::pack_ticket(t, out), out);
+}
+
 // A ticket packed, and its bytes unpacked again.
 fn print_ticket(t: Ticket, out: &mut [u8]) {
-    print_packed(ticket::pack_ticket(t, out), out);
+    print_packing(t, out);
     io::write_all(1, b"unpacked:");
     print_unpacked(ticket::unpack_ticket(out));
 }
@@ -134,14 +139,44 @@ fn print_head(h: Head, out: &mut [u8]) {
     print_unpacked_head(ticket::unpack_head(out));
 }
 
+// Tare equal to gross, and above it.
+fn print_weights() {
+    let mut packed = [0u8; 13];
+    let mut untouched = [0x5au8; 13];
+    io::write_all(1, b"tare 250001:");
+    print_valid(ticket_with(3600, 4200, 250000, 250001));
+    io::write_all(1, b"gross 0, tare 0:");
+    print_valid(ticket_with(3600, 4200, 0, 0));
+    io::write_all(1, b"gross and tare 1048575:");
+    print_valid(ticket_with(3600, 4200, 1048575, 1048575));
+    io::write_all(1, b"gross 1048574, tare 1048575:");
+    print_valid(ticket_with(3600, 4200, 1048574, 1048575));
+    io::write_all(1, b"(l)");
+    print_ticket(ticket_with(3600, 4200, 250000, 250000), &mut packed);
+    io::write_all(1, b"tare 6, gross 5:");
+    print_packing(ticket_with(3600, 4200, 5, 6), &mut untouched);
+    io::write_all(1, b"bytes with tare 250001:");
+    print_unpacked(ticket::unpack_ticket(b"\x10\x14\x20\xd0\x38\x40\x41\xa0\xf4\x24\x0f\x42\x44"));
+}
+
 fn print_by_value_and_totals() {
     io::write_all(1, b"(h) by value:");
     print_by_value(ticket::packed(ticket_with(3600, 4200, 250000, 110000)));
     io::write_all(1, b"(l) by value:");
     print_by_value(ticket::packed(ticket_with(3600, 4200, 250000, 250000)));
+    io::write_all(1, b"tare 250001 by value:");
+    print_by_value(ticket::packed(ticket_with(3600, 4200, 250000, 250001)));
     io::write_all(1, b"totals of (h) twice:");
     print_totals(ticket::totals(
         b"\x10\x14\x20\xd0\x38\x40\x41\xa0\xf4\x24\x06\xb6\xc0\x10\x14\x20\xd0\x38\x40\x41\xa0\xf4\x24\x06\xb6\xc0",
+    ));
+    io::write_all(1, b"totals of (h) and (l):");
+    print_totals(ticket::totals(
+        b"\x10\x14\x20\xd0\x38\x40\x41\xa0\xf4\x24\x06\xb6\xc0\x10\x14\x20\xd0\x38\x40\x41\xa0\xf4\x24\x0f\x42\x40",
+    ));
+    io::write_all(1, b"totals with tare 250001:");
+    print_totals(ticket::totals(
+        b"\x10\x14\x20\xd0\x38\x40\x41\xa0\xf4\x24\x06\xb6\xc0\x10\x14\x20\xd0\x38\x40\x41\xa0\xf4\x24\x0f\x42\x44",
     ));
     io::write_all(1, b"totals with last byte C1:");
     print_totals(ticket::totals(
@@ -172,7 +207,7 @@ fn main() {
     print_valid(ticket_with(4200, 4200, 250000, 110000));
     io::write_all(1, b"(l) tare 250000:");
     print_valid(ticket_with(3600, 4200, 250000, 250000));
-
+    print_weights();
     io::write_all(1, b"last byte C1:");
     print_unpacked(ticket::unpack_ticket(b"\x10\x14\x20\xd0\x38\x40\x41\xa0\xf4\x24\x06\xb6\xc1"));
     io::write_all(1, b"12 bytes:");

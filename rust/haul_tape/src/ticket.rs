@@ -1,6 +1,6 @@
 use crate::{exports, Refusal, HEAD_BYTES, TICKET_BYTES};
 
-/// One haul.
+/// One haul. Its net is `gross` minus `tare`: 0 for an empty trip, where they are equal.
 ///
 /// A ticket is only data: its rule is checked where it is packed or written on a tape, and holds
 /// of every ticket that was unpacked or read.
@@ -24,7 +24,9 @@ use crate::{exports, Refusal, HEAD_BYTES, TICKET_BYTES};
 /// assert_eq!(Ticket::unpack(&packed)?, ticket);
 ///
 /// let empty = Ticket { tare: 250_000, ..ticket };
-/// assert_eq!(empty.pack(), Err(Refusal::Ticket));
+/// assert_eq!(Ticket::unpack(&empty.pack()?)?, empty);
+/// let wrong = Ticket { tare: 250_001, ..ticket };
+/// assert_eq!(wrong.pack(), Err(Refusal::Ticket));
 /// # Ok::<(), Refusal>(())
 /// ```
 #[repr(C)]
@@ -44,9 +46,9 @@ pub struct Ticket {
     pub loaded: u32,
     /// When it tipped, in seconds of the shift: at most 43,199.
     pub tipped: u32,
-    /// The loaded truck's weight in kilograms, at most 1,048,575.
+    /// The weight of truck and load in kilograms, at most 1,048,575.
     pub gross: u32,
-    /// The empty truck's weight in kilograms, below `gross`.
+    /// The empty truck's weight in kilograms, at most `gross`.
     pub tare: u32,
 }
 
@@ -56,7 +58,7 @@ impl Ticket {
     /// # Errors
     ///
     /// [`Refusal::Ticket`]: a field is outside its range, `loaded` is after `tipped`, or `tare` is
-    /// not below `gross`.
+    /// above `gross`.
     pub fn pack(&self) -> Result<[u8; TICKET_BYTES], Refusal> {
         let mut packed = [0; TICKET_BYTES];
         exports::pack_ticket(*self, &mut packed).into_result()?;

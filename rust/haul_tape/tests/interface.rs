@@ -10,6 +10,18 @@ const HEAD: Head = Head {
     sheet: 1,
 };
 
+const TICKET: Ticket = Ticket {
+    form: 1,
+    truck: 5,
+    shovel: 2,
+    tip: 3,
+    grade: 4,
+    loaded: 3_600,
+    tipped: 4_200,
+    gross: 250_000,
+    tare: 110_000,
+};
+
 /// Arrays of 16 bytes pass as they are, and so do slices; any other size is refused.
 #[test]
 fn sizes_of_key_nonce_and_tag() {
@@ -41,22 +53,85 @@ fn sizes_of_key_nonce_and_tag() {
     }
 }
 
+fn weighing(gross: u32, tare: u32) -> Ticket {
+    Ticket {
+        gross,
+        tare,
+        ..TICKET
+    }
+}
+
+/// An empty trip, where tare is gross, is a ticket like others, with net 0.
+#[test]
+fn empty_trips() {
+    let key = [1; 16];
+    let weights = [0, 1, 5, 250_000, 1_048_575];
+    let tickets = [TICKET]
+        .into_iter()
+        .chain(weights.map(|gross| weighing(gross, gross)))
+        .collect::<Vec<_>>();
+    let mut tape = vec![0; 25 + 13 * tickets.len()];
+    let mut writer = Writer::new();
+    let mut at = writer.start(&key, HEAD, &mut tape).unwrap().bytes;
+    for &ticket in &tickets {
+        assert_eq!(Ticket::unpack(&ticket.pack().unwrap()), Ok(ticket));
+        at += writer.add(ticket, &mut tape[at..]).unwrap().bytes;
+    }
+    writer.finish(&mut tape[at..]).unwrap();
+
+    let mut out = vec![0; 1_000];
+    let opened = open_tape(&key, &tape, &mut out).unwrap();
+    assert_eq!((opened.tickets, opened.net), (6, 140_000));
+    let plain = &out[..opened.bytes()];
+    assert!(Reader::new(plain).eq(tickets.into_iter().map(Ok)));
+    assert_eq!(trucks(plain), Ok(1));
+
+    let bytes = listing(&key, &tape, &mut out).unwrap();
+    let text = std::str::from_utf8(&out[..bytes]).unwrap();
+    let nets = text.lines().map(|line| line.rsplit(' ').next().unwrap());
+    let expected = ["1", "140000", "0", "0", "0", "0", "0", "140000"];
+    assert!(nets.eq(expected), "{text}");
+}
+
+/// A tare above the gross, here by one kilogram, breaks the ticket's rule.
+#[test]
+fn tare_above_gross() {
+    let key = [1; 16];
+    let head = HEAD.pack().unwrap();
+    let mut nonce = [0; 16];
+    nonce[..9].copy_from_slice(&head);
+    for (gross, tare) in [(0, 1), (5, 6), (250_000, 250_001), (1_048_574, 1_048_575)] {
+        let wrong = weighing(gross, tare);
+        assert_eq!(wrong.pack(), Err(Refusal::Ticket));
+        let mut out = [0x5A; 26];
+        let mut writer = Writer::new();
+        writer.start(&key, HEAD, &mut [0; 9]).unwrap();
+        assert_eq!(writer.add(wrong, &mut out), Err(Refusal::Ticket));
+        assert_eq!(writer.add(TICKET, &mut [0; 13]).unwrap().steps, 2_224);
+
+        // its bytes, with the tare put between the gross and two spare bits, and a tape of them
+        let packed = weighing(gross, 0).pack().unwrap();
+        let mut bytes = [0; 16];
+        bytes[3..].copy_from_slice(&packed);
+        let packed = (u128::from_be_bytes(bytes) | u128::from(tare) << 2).to_be_bytes();
+        assert_eq!(Ticket::unpack(&packed[3..]), Err(Refusal::Unpack));
+        let plain = [&TICKET.pack().unwrap(), &packed[3..]].concat();
+        let mut tape = head.to_vec();
+        tape.resize(25 + plain.len(), 0);
+        message::seal(&key, &nonce, &head, &plain, &mut tape[9..]).unwrap();
+        assert_eq!(open_tape(&key, &tape, &mut out), Err(Refusal::Unpack));
+        assert_eq!(out, [0x5A; 26]);
+        assert_eq!(listing(&key, &tape, &mut out), Ok(10));
+        assert_eq!(&out[..10], b"REFUSED 8\n");
+        let read = Reader::new(&plain).collect::<Vec<_>>();
+        assert_eq!(read, [Ok(TICKET), Err(Refusal::Unpack)]);
+        assert_eq!(trucks(&plain), Err(Refusal::Unpack));
+    }
+}
+
 /// The plain bytes of a tape whose tickets have these trucks.
 fn plain(trucks: &[u16]) -> Vec<u8> {
-    let packed = |&truck| {
-        let ticket = Ticket {
-            form: 1,
-            truck,
-            shovel: 2,
-            tip: 3,
-            grade: 4,
-            loaded: 3_600,
-            tipped: 4_200,
-            gross: 250_000,
-            tare: 110_000,
-        };
-        ticket.pack().unwrap()
-    };
+    let packed = |&truck| Ticket { truck, ..TICKET }.pack().unwrap();
     trucks.iter().flat_map(packed).collect()
 }
 

@@ -11,6 +11,7 @@ mod tapes;
 mod trucks;
 
 pub use readings::Readers;
+pub use tapes::sealed;
 
 use haul_tape::{Head, Ticket};
 use std::fmt::Display;
@@ -127,7 +128,7 @@ const HEAD: Head = Head {
     sheet: 1,
 };
 
-/// The ticket with the smallest values.
+/// The smallest values that a ticket with a net above 0 can have.
 const SMALLEST: Ticket = Ticket {
     form: 1,
     truck: 1,
@@ -140,7 +141,7 @@ const SMALLEST: Ticket = Ticket {
     tare: 0,
 };
 
-/// The ticket with the greatest values.
+/// The ticket with a load that has the greatest values.
 const GREATEST: Ticket = Ticket {
     form: 1,
     truck: 1_023,
@@ -151,6 +152,29 @@ const GREATEST: Ticket = Ticket {
     tipped: 43_199,
     gross: 1_048_575,
     tare: 1_048_574,
+};
+
+/// Trips back empty: document 01's case (l), and those with the smallest and the greatest values.
+const EMPTY_TRIPS: [Ticket; 3] = [
+    Ticket {
+        tare: 250_000,
+        ..TICKET
+    },
+    Ticket {
+        gross: 0,
+        ..SMALLEST
+    },
+    Ticket {
+        tare: 1_048_575,
+        ..GREATEST
+    },
+];
+
+/// The ticket beside number 4: its tare is one above its gross.
+const TARE_ABOVE_GROSS: Ticket = Ticket {
+    gross: 5,
+    tare: 6,
+    ..TICKET
 };
 
 /// Tickets that break the rule, each in one place.
@@ -175,12 +199,35 @@ fn broken_tickets() -> Vec<Ticket> {
             gross: 1_048_576,
             ..t
         },
-        Ticket { tare: 250_000, ..t },
         Ticket { tare: 250_001, ..t },
+        TARE_ABOVE_GROSS,
         Ticket {
             gross: 0,
-            tare: 0,
+            tare: 1,
             ..t
+        },
+        Ticket {
+            gross: 1_048_574,
+            tare: 1_048_575,
+            ..t
+        },
+        Ticket {
+            gross: 1_048_575,
+            tare: 1_048_576,
+            ..t
+        },
+        // Empty trips have the rest of the rule, too.
+        Ticket {
+            loaded: 4_201,
+            ..EMPTY_TRIPS[0]
+        },
+        Ticket {
+            truck: 0,
+            ..EMPTY_TRIPS[1]
+        },
+        Ticket {
+            grade: 10,
+            ..EMPTY_TRIPS[2]
         },
     ]
 }
@@ -220,8 +267,8 @@ fn packed_fields<const BYTES: usize>(fields: &[(u32, u32)]) -> Option<[u8; BYTES
         .ok()
 }
 
-/// The packed bytes of a ticket, even if it breaks the rule.
-fn pack_anyway(t: Ticket) -> Option<[u8; 13]> {
+/// The packed bytes of a ticket, even if it breaks the rule; `None` if a field does not fit its width.
+pub fn pack_anyway(t: Ticket) -> Option<[u8; 13]> {
     packed_fields(&[
         (t.form.into(), 4),
         (t.truck.into(), 10),

@@ -83,8 +83,31 @@ impl Random {
         }
     }
 
-    /// A valid ticket.
+    /// A valid ticket. One in eight is a trip back empty.
     pub fn ticket(&mut self) -> Ticket {
+        match self.once_in(8) {
+            true => self.empty_trip(),
+            false => self.ticket_with_load(),
+        }
+    }
+
+    /// A valid ticket whose tare is its gross.
+    pub fn empty_trip(&mut self) -> Ticket {
+        let ticket = self.ticket_with_load();
+        let gross = match self.below(8) {
+            0 => 0,
+            1 => 1_048_575,
+            _ => ticket.gross,
+        };
+        Ticket {
+            gross,
+            tare: gross,
+            ..ticket
+        }
+    }
+
+    /// A valid ticket whose tare is below its gross.
+    pub fn ticket_with_load(&mut self) -> Ticket {
         let tipped = self.between(0, 43_199);
         let gross = self.between(1, 1_048_575);
         Ticket {
@@ -143,13 +166,15 @@ impl Random {
                     t.tipped = self.pick(&pick);
                 }
                 7 => {
+                    let less = t.tare.saturating_sub(1);
                     let around = t.gross.wrapping_add(1 << 20);
-                    let pick = [0, 1, t.tare, around, 1_048_575, 1_048_576, u32::MAX];
+                    let pick = [0, 1, less, t.tare, around, 1_048_575, 1_048_576, u32::MAX];
                     t.gross = self.pick(&pick);
                 }
                 _ => {
                     let less = t.gross.saturating_sub(1);
-                    let pick = [0, less, t.gross, 1_048_575, 1_048_576, u32::MAX];
+                    let more = t.gross.saturating_add(1);
+                    let pick = [0, less, t.gross, more, 1_048_575, 1_048_576, u32::MAX];
                     t.tare = self.pick(&pick);
                 }
             }
@@ -169,6 +194,17 @@ const EDGES_OF_SHIFT_AND_SHEET: [u32; 9] = [
     1_048_577,
     u32::MAX,
 ];
+
+/// The ticket with a tare one above its gross. The greatest gross is lowered, so that the tare fits
+/// its width.
+pub fn tare_above_gross(ticket: Ticket) -> Ticket {
+    let gross = ticket.gross.min(1_048_574);
+    Ticket {
+        gross,
+        tare: gross + 1,
+        ..ticket
+    }
+}
 
 /// The bytes with one bit turned.
 pub fn turned(bytes: &[u8], bit: usize) -> Vec<u8> {

@@ -3,7 +3,8 @@
 use haul_tape::{listing, listing_to_string, Head, Ticket};
 use haul_tape_differential::both;
 use haul_tape_differential::calls::write_tape;
-use haul_tape_differential::random::{turned, Random};
+use haul_tape_differential::kit::{pack_anyway, sealed};
+use haul_tape_differential::random::{tare_above_gross, turned, Random};
 
 #[test]
 fn random_tapes() {
@@ -60,8 +61,49 @@ fn widths_of_numbers() {
             shift: number,
             sheet: 1_000_001 - number,
         };
-        let tape = write_tape(&key, head, &[smallest, greatest, smallest]);
+        let nothing = Ticket {
+            gross: 0,
+            ..smallest
+        };
+        let tape = write_tape(&key, head, &[smallest, nothing, greatest, smallest]);
         both::listing(&key, &tape);
+    }
+}
+
+/// Lines with net 0, and the total of the others; a tare above the gross is 8.
+#[test]
+fn trips_back_empty() {
+    let mut random = Random::for_test();
+    for _ in 0..200 {
+        let (key, head) = (random.block(), random.head());
+        let mut tickets: Vec<Ticket> = (0..4).map(|_| random.ticket_with_load()).collect();
+        let total: u32 = tickets.iter().map(|t| t.gross - t.tare).sum();
+        let (place, t) = (random.below(5), random.empty_trip());
+        tickets.insert(place, t);
+        let text = both::listing(&key, &write_tape(&key, head, &tickets));
+        let text = String::from_utf8(text).unwrap();
+        let lines: Vec<&str> = text.lines().collect();
+        let fields = [
+            place as u32 + 1,
+            t.truck.into(),
+            t.shovel.into(),
+            t.tip.into(),
+            t.grade.into(),
+            t.loaded,
+            t.tipped,
+            0,
+        ];
+        assert_eq!(lines[place + 1], fields.map(|n| n.to_string()).join(" "));
+        assert_eq!(lines[6..], [format!("TOTAL 5 {total}")]);
+
+        tickets[place] = tare_above_gross(t);
+        let plain: Vec<u8> = tickets
+            .into_iter()
+            .flat_map(pack_anyway)
+            .flatten()
+            .collect();
+        let tape = sealed(&key, head.pack().unwrap(), &plain);
+        assert_eq!(both::listing(&key, &tape), b"REFUSED 8\n");
     }
 }
 

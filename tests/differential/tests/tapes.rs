@@ -3,7 +3,8 @@
 use haul_tape::{Head, Ticket};
 use haul_tape_differential::both;
 use haul_tape_differential::calls::write_tape;
-use haul_tape_differential::random::{turned, Random};
+use haul_tape_differential::kit::{pack_anyway, sealed};
+use haul_tape_differential::random::{tare_above_gross, turned, Random};
 use haul_tape_twin::ticket;
 
 struct Tape {
@@ -13,8 +14,12 @@ struct Tape {
 }
 
 fn random_tape(random: &mut Random, tickets: usize) -> Tape {
+    let tickets = (0..tickets).map(|_| random.ticket()).collect();
+    tape_of(random, tickets)
+}
+
+fn tape_of(random: &mut Random, tickets: Vec<Ticket>) -> Tape {
     let (key, head) = (random.block(), random.head());
-    let tickets: Vec<Ticket> = (0..tickets).map(|_| random.ticket()).collect();
     let bytes = write_tape(&key, head, &tickets);
     Tape {
         key,
@@ -73,6 +78,47 @@ fn the_longest_tape() {
     assert_eq!(both::open_tape(&tape.key, &last, 65_000).answer, Err(7));
     let longer = [tape.bytes, random.bytes(13)].concat();
     assert_eq!(both::open_tape(&tape.key, &longer, 65_013).answer, Err(2));
+}
+
+/// Trips back empty count as tickets, and the total is that of the others.
+#[test]
+fn trips_back_empty() {
+    let mut random = Random::for_test();
+    for (with_load, without) in [(0, 1), (0, 5), (1, 1), (5, 1), (5, 5), (1, 39), (0, 5_000)] {
+        let mut tickets: Vec<Ticket> = (0..with_load).map(|_| random.ticket_with_load()).collect();
+        let net = tickets.iter().map(|t| u64::from(t.gross - t.tare)).sum();
+        tickets.extend((0..without).map(|_| random.empty_trip()));
+        random.shuffle(&mut tickets);
+        let tape = tape_of(&mut random, tickets);
+        there_and_back(&tape);
+        let n = with_load + without;
+        let opened = both::open_tape(&tape.key, &tape.bytes, 13 * n);
+        assert_eq!(opened.answer, Ok((n as u64, net)));
+    }
+}
+
+/// Well sealed tapes on which one ticket has a tare one above its gross, wherever it stands.
+#[test]
+fn tare_one_above_gross() {
+    let mut random = Random::for_test();
+    for tickets in 1..=6 {
+        for place in 0..tickets {
+            let Tape {
+                key,
+                tickets,
+                bytes,
+            } = random_tape(&mut random, tickets);
+            let mut wrong = tickets.clone();
+            wrong[place] = tare_above_gross(random.ticket());
+            let plain: Vec<u8> = wrong.into_iter().flat_map(pack_anyway).flatten().collect();
+            assert_eq!(plain.len(), 13 * tickets.len());
+            let head = bytes[..9].try_into().unwrap();
+            let ran = both::open_tape(&key, &sealed(&key, head, &plain), plain.len());
+            assert_eq!(ran.answer, Err(8));
+            assert_eq!(ran.out, both::pattern(plain.len()));
+            assert_eq!(both::read(&plain), (tickets[..place].to_vec(), Some(8)));
+        }
+    }
 }
 
 /// Tapes around the lengths at which a longer scratch is taken.
@@ -167,11 +213,7 @@ fn well_sealed_and_wrong() {
             }
             _ => random.head().pack().unwrap(),
         };
-        let nonce = haul_tape_twin::tape::nonce_of(&head);
-        let sealed = both::seal(&key, &nonce, &head, &plain, plain.len() + 16);
-        let tape = [&head, &sealed.out[..]].concat();
-
-        let ran = both::open_tape(&key, &tape, plain.len());
+        let ran = both::open_tape(&key, &sealed(&key, head, &plain), plain.len());
         let reads = both::read(&plain);
         match ran.answer {
             Ok((n, _)) => {

@@ -2,6 +2,7 @@
 
 use haul_tape::{Head, Ticket};
 use haul_tape_differential::both;
+use haul_tape_differential::kit::pack_anyway;
 use haul_tape_differential::random::{turned, Random};
 
 /// Packs the ticket into outputs of several lengths; unpacks what was written.
@@ -44,17 +45,45 @@ fn try_head(head: Head) -> Result<Vec<u8>, u8> {
 #[test]
 fn tickets() {
     let mut random = Random::for_test();
-    let mut refused = 0;
+    let (mut refused, mut empty, mut above) = (0, 0, 0);
     for _ in 0..20_000 {
-        let packed = try_ticket(random.ticket()).expect("the ticket is valid");
+        let ticket = random.ticket();
+        empty += u32::from(ticket.tare == ticket.gross);
+        let packed = try_ticket(ticket).expect("the ticket is valid");
         // Bytes that are one bit from a ticket's; many are another ticket's.
         let other = turned(&packed, random.below(104));
         if let Ok(ticket) = both::unpack_ticket(&other) {
             assert_eq!(try_ticket(ticket), Ok(other));
         }
-        refused += u32::from(try_ticket(random.edge_ticket()).is_err());
+        let ticket = random.edge_ticket();
+        above += u32::from(ticket.tare.checked_sub(1) == Some(ticket.gross));
+        refused += u32::from(try_ticket(ticket).is_err());
     }
+    println!("refused {refused}; trips back empty {empty}; tare one above gross {above}");
     assert!(0 < refused && refused < 20_000);
+    assert!(empty > 2_000 && above > 200);
+}
+
+/// Tare equal to gross, and one above it.
+#[test]
+fn tare_up_to_gross() {
+    let mut random = Random::for_test();
+    let mut grosses = vec![0, 1, 5, 250_000, 1_048_574, 1_048_575];
+    grosses.extend((0..5_000).map(|_| random.between(0, 1_048_575)));
+    for gross in grosses {
+        let ticket = random.ticket();
+        let [equal, above] = [gross, gross + 1].map(|tare| Ticket {
+            gross,
+            tare,
+            ..ticket
+        });
+        let packed = try_ticket(equal).expect("a trip back empty is a valid ticket");
+        assert_eq!(Some(packed), pack_anyway(equal).map(Vec::from));
+        assert_eq!(try_ticket(above), Err(4));
+        if let Some(packed) = pack_anyway(above) {
+            assert_eq!(both::unpack_ticket(&packed), Err(8));
+        }
+    }
 }
 
 #[test]

@@ -3,14 +3,15 @@
 use haul_tape::{truck_set_of, Ticket};
 use haul_tape_differential::both;
 use haul_tape_differential::calls::write_tape;
-use haul_tape_differential::random::{turned, Random};
+use haul_tape_differential::kit::pack_anyway;
+use haul_tape_differential::random::{tare_above_gross, turned, Random};
 use haul_tape_twin::ticket;
 use haul_tape_twin::trucks::TruckCounts;
 
 /// A change to 13 packed bytes, after which they do not unpack, with its name.
 type Damage = (&'static str, fn(&mut [u8]));
 
-const DAMAGES: [Damage; 13] = [
+const DAMAGES: [Damage; 14] = [
     ("form 0", |p| p[0] &= 0x0F),
     ("form 15", |p| p[0] |= 0xF0),
     ("truck 0", |p| (p[0], p[1]) = (p[0] & 0xF0, p[1] & 0x03)),
@@ -27,6 +28,10 @@ const DAMAGES: [Damage; 13] = [
     ("gross 0 and tare 1,048,575", |p| {
         (p[7], p[8], p[9]) = (p[7] & 0xFC, 0, 0);
         (p[10], p[11], p[12]) = (0x3F, 0xFF, 0xFC);
+    }),
+    ("gross 0 and tare 1", |p| {
+        (p[7], p[8], p[9]) = (p[7] & 0xFC, 0, 0);
+        (p[10], p[11], p[12]) = (0, 0, 0x04);
     }),
     ("the first spare bit", |p| p[12] |= 2),
     ("the last spare bit", |p| p[12] |= 1),
@@ -428,6 +433,34 @@ fn order_and_repeats() {
             assert_eq!(both::trucks_of_two(&changed, &other), counts);
             assert_eq!(both::trucks_of_two(&other, &changed), counts);
         }
+    }
+}
+
+/// With every ticket a trip back empty the trucks are the same; with one tare above its gross the
+/// tape is 8.
+#[test]
+fn trips_back_empty() {
+    let mut random = Random::for_test();
+    for _ in 0..200 {
+        let every = every_truck(&mut random);
+        let number = 1 + random.below(40);
+        let trucks = drawn(&mut random, number, &every[..20]);
+        let empty_trip = |&truck: &u16| {
+            let ticket = random.empty_trip();
+            Ticket { truck, ..ticket }.pack().unwrap()
+        };
+        let empty: Vec<u8> = trucks.iter().flat_map(empty_trip).collect();
+        assert_eq!(both::trucks(&empty), Ok(once_each(trucks.clone())));
+        let other = tape(&mut random, &trucks);
+        let counts = both::trucks_of_two(&empty, &other).unwrap();
+        assert_eq!((counts.both, counts.just_one), (counts.either, 0));
+
+        let mut above = empty;
+        let packed = pack_anyway(tare_above_gross(random.ticket())).unwrap();
+        above[13 * random.below(number)..][..13].copy_from_slice(&packed);
+        assert_eq!(both::trucks(&above), Err(8));
+        assert_eq!(both::trucks_of_two(&above, &other), Err(8));
+        assert_eq!(both::trucks_of_two(&other, &above), Err(8));
     }
 }
 

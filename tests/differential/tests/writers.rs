@@ -2,7 +2,7 @@
 
 use haul_tape::Ticket;
 use haul_tape_differential::calls::{WriterCall, Writers};
-use haul_tape_differential::random::Random;
+use haul_tape_differential::random::{tare_above_gross, Random};
 use haul_tape_twin::tape::WriterPhase;
 
 /// Any call, likely to fit the phase; most arguments are good.
@@ -66,9 +66,8 @@ fn random_lists() {
     assert!([1, 2, 3, 4, 6].iter().all(|&number| refused[number] > 0));
 }
 
-#[test]
-fn the_5_001st_ticket() {
-    let mut random = Random::for_test();
+/// Writers with a start that was accepted.
+fn started(random: &mut Random) -> Writers {
     let mut writers = Writers::fresh();
     let start = WriterCall::Start {
         key: random.bytes(16),
@@ -76,6 +75,39 @@ fn the_5_001st_ticket() {
         room: 9,
     };
     assert!(writers.call(&start).answer.is_ok());
+    writers
+}
+
+/// Adds of trips back empty, and between them of tickets with tare one above gross, which are 4 even
+/// where the output is too short.
+#[test]
+fn trips_back_empty() {
+    let mut random = Random::for_test();
+    for _ in 0..200 {
+        let mut writers = started(&mut random);
+        for added in 1..=10 {
+            let empty = random.empty_trip();
+            let above = tare_above_gross(empty);
+            for (ticket, room, answer) in [
+                (above, 13, Err(4)),
+                (above, 12, Err(4)),
+                (empty, 12, Err(6)),
+                (empty, 13, Ok(13)),
+            ] {
+                let ran = writers.call(&WriterCall::Add { ticket, room });
+                assert_eq!(ran.answer.map(|done| done.bytes), answer);
+            }
+            assert_eq!(writers.twin().tickets(), added);
+        }
+        let finish = WriterCall::Finish { room: 16 };
+        assert!(writers.call(&finish).answer.is_ok());
+    }
+}
+
+#[test]
+fn the_5_001st_ticket() {
+    let mut random = Random::for_test();
+    let mut writers = started(&mut random);
     let ticket = random.ticket();
     for _ in 0..5_000 {
         let add = WriterCall::Add {
@@ -85,7 +117,14 @@ fn the_5_001st_ticket() {
         assert!(writers.call(&add).answer.is_ok());
     }
     let broken = Ticket { form: 2, ..ticket };
-    for (ticket, room, number) in [(ticket, 13, 5), (ticket, 0, 5), (broken, 13, 4)] {
+    let (empty, above) = (random.empty_trip(), tare_above_gross(ticket));
+    for (ticket, room, number) in [
+        (ticket, 13, 5),
+        (ticket, 0, 5),
+        (empty, 13, 5),
+        (broken, 13, 4),
+        (above, 13, 4),
+    ] {
         let add = WriterCall::Add { ticket, room };
         assert_eq!(writers.call(&add).answer, Err(number));
     }

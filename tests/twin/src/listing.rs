@@ -58,36 +58,32 @@ fn lines(key: &[u8], tape: &[u8]) -> Result<String, u8> {
 mod tests {
     use super::*;
     use crate::tape::Writer;
+    use crate::testing::TICKET;
     use crate::ticket::{Head, Ticket};
 
     const KEY: [u8; 16] = *b"sixteen key byte";
 
-    /// A tape with document 01's head and its ticket, (i) and (h), n times.
-    fn tape(n: usize) -> Vec<u8> {
+    /// A tape with document 01's head, case (i), and these tickets.
+    fn tape_of(tickets: &[Ticket]) -> Vec<u8> {
         let head = Head {
             device: 7,
             shift: 2,
             sheet: 1,
         };
-        let ticket = Ticket {
-            form: 1,
-            truck: 5,
-            shovel: 2,
-            tip: 3,
-            grade: 4,
-            loaded: 3_600,
-            tipped: 4_200,
-            gross: 250_000,
-            tare: 110_000,
-        };
+        let n = tickets.len();
         let mut tape = vec![0; 25 + 13 * n];
         let mut writer = Writer::fresh();
         writer.start(&KEY, &head, &mut tape).unwrap();
-        for i in 0..n {
-            writer.add(&ticket, &mut tape[9 + 13 * i..]).unwrap();
+        for (i, ticket) in tickets.iter().enumerate() {
+            writer.add(ticket, &mut tape[9 + 13 * i..]).unwrap();
         }
         writer.finish(&mut tape[9 + 13 * n..]).unwrap();
         tape
+    }
+
+    /// A tape with document 01's head and its ticket n times.
+    fn tape(n: usize) -> Vec<u8> {
+        tape_of(&vec![TICKET; n])
     }
 
     #[test]
@@ -112,6 +108,27 @@ mod tests {
         assert!(text.ends_with("\n5000 5 2 3 4 3600 4200 140000\nTOTAL 5000 700000000\n"));
     }
 
+    /// A trip back empty has net 0, and the total is that of the other tickets.
+    #[test]
+    fn trips_back_empty() {
+        let empty = |gross| Ticket {
+            truck: 6,
+            gross,
+            tare: gross,
+            ..TICKET
+        };
+        let tickets = [empty(250_000), TICKET, empty(0), empty(1_048_575)];
+        let expected = "TAPE 7 2 1\n\
+            1 6 2 3 4 3600 4200 0\n\
+            2 5 2 3 4 3600 4200 140000\n\
+            3 6 2 3 4 3600 4200 0\n\
+            4 6 2 3 4 3600 4200 0\n\
+            TOTAL 4 140000\n";
+        assert_eq!(listing(&KEY, &tape_of(&tickets)), expected.as_bytes());
+        let expected = b"TAPE 7 2 1\n1 6 2 3 4 3600 4200 0\nTOTAL 1 0\n";
+        assert_eq!(listing(&KEY, &tape_of(&[empty(5)])), expected);
+    }
+
     #[test]
     fn refusals() {
         let tape = tape(1);
@@ -128,8 +145,12 @@ mod tests {
 
         let head = &tape[..9];
         let nonce = [head, &[0; 7]].concat();
-        let mut bad = tape.clone();
-        crate::message::seal(&KEY, &nonce, head, &[0xC1; 13], &mut bad[9..]).unwrap();
-        assert_eq!(listing(&KEY, &bad), b"REFUSED 8\n");
+        // Form 12, and document 01's ticket with tare 250,001.
+        let tare_above = *b"\x10\x14\x20\xd0\x38\x40\x41\xa0\xf4\x24\x0f\x42\x44";
+        for plain in [[0xC1; 13], tare_above] {
+            let mut bad = tape.clone();
+            crate::message::seal(&KEY, &nonce, head, &plain, &mut bad[9..]).unwrap();
+            assert_eq!(listing(&KEY, &bad), b"REFUSED 8\n");
+        }
     }
 }

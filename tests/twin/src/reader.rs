@@ -98,15 +98,36 @@ mod tests {
         assert_eq!(reader.next(), Next::End);
     }
 
+    /// The second with a spare bit set, or with tare 250,001 beside gross 250,000.
     #[test]
     fn stays_before_a_ticket_that_does_not_unpack() {
-        let mut bytes = GOOD.repeat(3);
-        bytes[25] = 0xC1;
-        let mut reader = Reader::new(&bytes);
-        assert!(matches!(reader.next(), Next::Ticket(_)));
-        for _ in 0..3 {
-            assert_eq!(reader.next(), Next::Refused(8));
-            assert_eq!(reader.position(), 1);
+        for last in [[0x06, 0xB6, 0xC1], [0x0F, 0x42, 0x44]] {
+            let mut bytes = GOOD.repeat(3);
+            bytes[23..26].copy_from_slice(&last);
+            let mut reader = Reader::new(&bytes);
+            assert!(matches!(reader.next(), Next::Ticket(_)));
+            for _ in 0..3 {
+                assert_eq!(reader.next(), Next::Refused(8));
+                assert_eq!(reader.position(), 1);
+            }
         }
+    }
+
+    /// The second with tare 250,000 beside gross 250,000.
+    #[test]
+    fn hands_out_a_trip_back_empty() {
+        let mut bytes = GOOD.repeat(3);
+        bytes[23..26].copy_from_slice(&[0x0F, 0x42, 0x40]);
+        let ticket = ticket::unpack(&GOOD).unwrap();
+        let empty = Ticket {
+            tare: 250_000,
+            ..ticket
+        };
+        let mut reader = Reader::new(&bytes);
+        for ticket in [ticket, empty, ticket] {
+            assert_eq!(reader.next(), Next::Ticket(ticket));
+        }
+        assert_eq!(reader.next(), Next::End);
+        assert_eq!(reader.position(), 3);
     }
 }

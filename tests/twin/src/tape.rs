@@ -153,7 +153,7 @@ pub fn open_tape(key: &[u8], tape: &[u8], out: &mut [u8]) -> Result<(u64, u64), 
 mod tests {
     use super::*;
     use crate::reader::{Next, Reader};
-    use crate::testing::XorShift;
+    use crate::testing::{XorShift, TICKET};
 
     const KEY: [u8; 16] = [9; 16];
     const HEAD: Head = Head {
@@ -161,31 +161,13 @@ mod tests {
         shift: 2,
         sheet: 1,
     };
-    const TICKET: Ticket = Ticket {
-        form: 1,
-        truck: 5,
-        shovel: 2,
-        tip: 3,
-        grade: 4,
-        loaded: 3_600,
-        tipped: 4_200,
-        gross: 250_000,
-        tare: 110_000,
-    };
 
-    fn random_ticket(random: &mut XorShift) -> Ticket {
-        let tipped = random.between(0, 43_199);
-        let gross = random.between(1, (1 << 20) - 1);
+    /// A trip back empty with this gross.
+    fn empty_trip(gross: u32) -> Ticket {
         Ticket {
-            form: 1,
-            truck: random.between(1, 1_023) as u16,
-            shovel: random.between(1, 63) as u8,
-            tip: random.between(1, 63) as u8,
-            grade: random.between(0, 9) as u8,
-            loaded: random.between(0, tipped),
-            tipped,
             gross,
-            tare: random.between(0, gross - 1),
+            tare: gross,
+            ..TICKET
         }
     }
 
@@ -220,7 +202,7 @@ mod tests {
                 shift: random.between(1, 1_000_000),
                 sheet: random.between(1, 1_000_000),
             };
-            let tickets: Vec<Ticket> = (0..n).map(|_| random_ticket(&mut random)).collect();
+            let tickets: Vec<Ticket> = (0..n).map(|_| random.ticket()).collect();
             let (tape, writer) = write_tape(&key, &head, &tickets);
             assert_eq!(writer.phase(), WriterPhase::Closed);
             assert_eq!(writer.tickets(), n as u64);
@@ -252,6 +234,28 @@ mod tests {
         }
     }
 
+    /// Trips back empty before, between and behind other tickets: they count, and add no net.
+    #[test]
+    fn trips_back_empty() {
+        let other = Ticket { tare: 0, ..TICKET };
+        let loaded = [TICKET, other];
+        let total = |tickets: &[Ticket]| {
+            let (tape, _) = write_tape(&KEY, &HEAD, tickets);
+            open_tape(&KEY, &tape, &mut vec![0; 13 * tickets.len()])
+        };
+        assert_eq!(total(&loaded), Ok((2, 390_000)));
+        for gross in [0, 1, 250_000, 1_048_575] {
+            let empty = empty_trip(gross);
+            assert_eq!(total(&[empty]), Ok((1, 0)));
+            assert_eq!(total(&[empty; 3]), Ok((3, 0)));
+            for place in 0..=2 {
+                let mut tickets = loaded.to_vec();
+                tickets.insert(place, empty);
+                assert_eq!(total(&tickets), Ok((3, 390_000)));
+            }
+        }
+    }
+
     #[test]
     fn refusals_of_the_writer() {
         /// Runs a call that must be refused with the number, and sees that nothing changed.
@@ -263,7 +267,7 @@ mod tests {
         let bad_head = Head { device: 0, ..HEAD };
         let bad_ticket = Ticket {
             gross: 5,
-            tare: 5,
+            tare: 6,
             ..TICKET
         };
 
@@ -282,6 +286,7 @@ mod tests {
         refused(&writer, 1, |w| w.start(&[], &bad_head, &mut []));
         refused(&writer, 4, |w| w.add(&bad_ticket, &mut []));
         refused(&writer, 6, |w| w.add(&TICKET, &mut [0; 12]));
+        refused(&writer, 6, |w| w.add(&empty_trip(5), &mut [0; 12]));
         refused(&writer, 6, |w| w.finish(&mut [0; 15]));
 
         for _ in 0..5_000 {
@@ -290,6 +295,7 @@ mod tests {
         refused(&writer, 4, |w| w.add(&bad_ticket, &mut []));
         refused(&writer, 5, |w| w.add(&TICKET, &mut []));
         refused(&writer, 5, |w| w.add(&TICKET, &mut [0; 13]));
+        refused(&writer, 5, |w| w.add(&empty_trip(5), &mut [0; 13]));
         refused(&writer, 6, |w| w.finish(&mut []));
 
         writer.finish(&mut [0; 16]).unwrap();
@@ -374,9 +380,14 @@ mod tests {
         // 8: the last plain byte is C1, alone or behind a good ticket or before one.
         assert_eq!(bad_plain[12], 0xC1);
         assert_eq!(open_tape(&KEY, &bad_tape, &mut out), Err(8));
-        for two in [[plain, bad_plain], [bad_plain, plain]] {
-            let tape = forged(&head, &two.concat());
-            assert_eq!(open_tape(&KEY, &tape, &mut out), Err(8));
+        // Tare 250,001 beside gross 250,000.
+        let mut tare_above = plain;
+        tare_above[10..].copy_from_slice(&[0x0F, 0x42, 0x44]);
+        for bad in [bad_plain, tare_above] {
+            for two in [[plain, bad], [bad, plain]] {
+                let tape = forged(&head, &two.concat());
+                assert_eq!(open_tape(&KEY, &tape, &mut out), Err(8));
+            }
         }
 
         assert_eq!(out, vec![0xAA; 65_013]);

@@ -1,4 +1,19 @@
-//! Repeatable pseudo-random values for the tests.
+//! The tests' ticket, and repeatable pseudo-random values.
+
+use crate::ticket::Ticket;
+
+/// Document 01, case (h).
+pub const TICKET: Ticket = Ticket {
+    form: 1,
+    truck: 5,
+    shovel: 2,
+    tip: 3,
+    grade: 4,
+    loaded: 3_600,
+    tipped: 4_200,
+    gross: 250_000,
+    tare: 110_000,
+};
 
 /// A 64-bit xorshift generator.
 pub struct XorShift(u64);
@@ -31,5 +46,26 @@ impl XorShift {
 
     pub fn block(&mut self) -> [u8; 16] {
         self.bytes(16).try_into().expect("16 bytes")
+    }
+
+    /// A valid ticket. One in eight is a trip back empty, and of these one in eight has gross 0.
+    pub fn ticket(&mut self) -> Ticket {
+        let tipped = self.between(0, 43_199);
+        let (empty, nothing) = (self.below(8) == 0, self.below(8) == 0);
+        let gross = match empty && nothing {
+            true => 0,
+            false => self.between(1, (1 << 20) - 1),
+        };
+        Ticket {
+            form: 1,
+            truck: self.between(1, 1_023) as u16,
+            shovel: self.between(1, 63) as u8,
+            tip: self.between(1, 63) as u8,
+            grade: self.between(0, 9) as u8,
+            loaded: self.between(0, tipped),
+            tipped,
+            gross,
+            tare: if empty { gross } else { self.between(0, gross) },
+        }
     }
 }

@@ -10,7 +10,8 @@ pub const TICKET_BYTES: usize = 13;
 /// Bytes of a packed head.
 pub const HEAD_BYTES: usize = 9;
 
-/// One haul. The two spare bits are no field: they are written as zeros and read as nothing else.
+/// One haul, with a load or without (document 02, P2). The two spare bits are no field: they are
+/// written as zeros and read as nothing else.
 #[derive(Clone, Copy, PartialEq, Eq, Debug)]
 pub struct Ticket {
     pub form: u8,
@@ -24,7 +25,7 @@ pub struct Ticket {
     pub tipped: u32,
     /// Kilograms.
     pub gross: u32,
-    /// Kilograms.
+    /// Kilograms. Equal to gross on a trip back empty.
     pub tare: u32,
 }
 
@@ -39,11 +40,11 @@ impl Ticket {
             && self.tipped <= 43_199
             && self.loaded <= self.tipped
             && self.gross < 1 << 20
-            && self.tare < self.gross
+            && self.tare <= self.gross
     }
 
-    /// Gross minus tare, in kilograms. A ticket with more tare than gross is not valid; its net is
-    /// given as 0.
+    /// Gross minus tare, in kilograms: 0 for a trip back empty. A ticket with more tare than gross is
+    /// not valid; its net is given as 0, too.
     pub fn net(&self) -> u32 {
         self.gross.saturating_sub(self.tare)
     }
@@ -185,20 +186,7 @@ impl Fields<'_> {
 #[cfg(test)]
 mod tests {
     use super::*;
-    use crate::testing::XorShift;
-
-    /// Document 01, case (h).
-    const TICKET: Ticket = Ticket {
-        form: 1,
-        truck: 5,
-        shovel: 2,
-        tip: 3,
-        grade: 4,
-        loaded: 3_600,
-        tipped: 4_200,
-        gross: 250_000,
-        tare: 110_000,
-    };
+    use crate::testing::{XorShift, TICKET};
 
     /// Document 01, case (i).
     const HEAD: Head = Head {
@@ -207,29 +195,39 @@ mod tests {
         sheet: 1,
     };
 
+    /// Packed bytes with another tare, also one that breaks the rule.
+    fn with_tare(mut packed: [u8; 13], tare: u32) -> [u8; 13] {
+        let mut last = u32::from_be_bytes(packed[9..].try_into().unwrap());
+        last = last & !(0xF_FFFF << 2) | tare << 2;
+        packed[9..].copy_from_slice(&last.to_be_bytes());
+        packed
+    }
+
     #[test]
     fn tickets_there_and_back() {
         let mut random = XorShift::new(41);
+        let mut empty_trips = 0;
         for _ in 0..2_000 {
-            let tipped = random.between(0, 43_199);
-            let gross = random.between(1, (1 << 20) - 1);
-            let ticket = Ticket {
-                form: 1,
-                truck: random.between(1, 1_023) as u16,
-                shovel: random.between(1, 63) as u8,
-                tip: random.between(1, 63) as u8,
-                grade: random.between(0, 9) as u8,
-                loaded: random.between(0, tipped),
-                tipped,
-                gross,
-                tare: random.between(0, gross - 1),
-            };
+            let ticket = random.ticket();
             assert!(ticket.is_valid());
+            assert_eq!(ticket.tare + ticket.net(), ticket.gross);
+            empty_trips += u32::from(ticket.tare == ticket.gross);
             let mut out = [0xAA; 15];
             assert_eq!(pack(&ticket, &mut out), Ok(13));
             assert_eq!(out[13..], [0xAA; 2]);
-            assert_eq!(unpack(&out[..13]), Ok(ticket));
+            let packed: [u8; 13] = out[..13].try_into().unwrap();
+            assert_eq!(unpack(&packed), Ok(ticket));
+
+            // The same with as much tare as gross, and with a kilogram more.
+            let [equal, above] =
+                [ticket.gross, ticket.gross + 1].map(|tare| Ticket { tare, ..ticket });
+            assert_eq!(unpack(&with_tare(packed, equal.tare)), Ok(equal));
+            assert_eq!(pack(&above, &mut out), Err(4));
+            if above.tare < 1 << 20 {
+                assert_eq!(unpack(&with_tare(packed, above.tare)), Err(8));
+            }
         }
+        assert!(empty_trips > 150);
     }
 
     #[test]
@@ -312,19 +310,46 @@ mod tests {
                 ..t
             },
         );
-        edge(Ticket { tare: 249_999, ..t }, Ticket { tare: 250_000, ..t });
-        edge(
-            Ticket {
-                gross: 1,
-                tare: 0,
+        edge(Ticket { tare: 0, ..t }, Ticket { tare: 250_001, ..t });
+        // Tare equal to gross, and one above it.
+        for gross in [0, 1, 5, 110_000, 250_000, 1_048_574, 1_048_575] {
+            let empty = Ticket {
+                gross,
+                tare: gross,
                 ..t
-            },
-            Ticket {
-                gross: 0,
-                tare: 0,
-                ..t
-            },
-        );
+            };
+            let above = Ticket {
+                tare: gross + 1,
+                ..empty
+            };
+            edge(empty, above);
+            assert_eq!(empty.net(), 0);
+        }
+    }
+
+    /// The bytes of tickets with tare equal to gross; with a tare one above it they do not unpack.
+    #[test]
+    fn packed_trips_back_empty() {
+        for (gross, last) in [
+            (250_000, [0xA0, 0xF4, 0x24, 0x0F, 0x42, 0x40]),
+            (5, [0xA0, 0x00, 0x01, 0x40, 0x00, 0x14]),
+            (0, [0xA0, 0x00, 0x00, 0x00, 0x00, 0x00]),
+            (1_048_575, [0xA3, 0xFF, 0xFF, 0xFF, 0xFF, 0xFC]),
+        ] {
+            let ticket = Ticket {
+                gross,
+                tare: gross,
+                ..TICKET
+            };
+            let mut out = [0; 13];
+            assert_eq!(pack(&ticket, &mut out), Ok(13));
+            assert_eq!(out[..7], [0x10, 0x14, 0x20, 0xD0, 0x38, 0x40, 0x41]);
+            assert_eq!(out[7..], last);
+            assert_eq!(unpack(&out), Ok(ticket));
+            if gross < 1_048_575 {
+                assert_eq!(unpack(&with_tare(out, gross + 1)), Err(8));
+            }
+        }
     }
 
     #[test]

@@ -61,23 +61,12 @@ fn truck_set(plain: &[u8]) -> Result<BTreeSet<u16>, u8> {
 #[cfg(test)]
 mod tests {
     use super::*;
-    use crate::testing::XorShift;
+    use crate::testing::{XorShift, TICKET};
     use crate::ticket::Ticket;
 
-    const TICKET: Ticket = Ticket {
-        form: 1,
-        truck: 5,
-        shovel: 2,
-        tip: 3,
-        grade: 4,
-        loaded: 3_600,
-        tipped: 4_200,
-        gross: 250_000,
-        tare: 110_000,
-    };
-
-    /// Tickets that do not unpack: form 15, truck 0, grade 15, a spare bit, and 13 zero bytes.
-    const BAD: [[u8; 13]; 5] = [
+    /// Tickets that do not unpack: form 15, truck 0, grade 15, a spare bit, 13 zero bytes, and a tare
+    /// one above the gross.
+    const BAD: [[u8; 13]; 6] = [
         [
             0xF0, 0x14, 0x20, 0xD0, 0x38, 0x40, 0x41, 0xA0, 0xF4, 0x24, 0x06, 0xB6, 0xC0,
         ],
@@ -91,6 +80,9 @@ mod tests {
             0x10, 0x14, 0x20, 0xD0, 0x38, 0x40, 0x41, 0xA0, 0xF4, 0x24, 0x06, 0xB6, 0xC1,
         ],
         [0; 13],
+        [
+            0x10, 0x14, 0x20, 0xD0, 0x38, 0x40, 0x41, 0xA0, 0xF4, 0x24, 0x0F, 0x42, 0x44,
+        ],
     ];
 
     fn packed(ticket: &Ticket) -> [u8; 13] {
@@ -159,6 +151,23 @@ mod tests {
         };
         let plain = [packed(&TICKET), packed(&other)].concat();
         assert_eq!(truck_list(&plain), Ok(vec![5]));
+    }
+
+    /// A truck is counted even where all its tickets are trips back empty.
+    #[test]
+    fn trips_back_empty() {
+        let empty = |truck, gross| Ticket {
+            truck,
+            gross,
+            tare: gross,
+            ..TICKET
+        };
+        let plain = [TICKET, empty(6, 250_000), empty(5, 0), empty(7, 0)].map(|t| packed(&t));
+        assert_eq!(truck_list(&plain.concat()), Ok(vec![5, 6, 7]));
+        assert_eq!(
+            trucks_of_two(&plain[0], &plain[1..].concat()),
+            counts(1, 3, 2)
+        );
     }
 
     #[test]

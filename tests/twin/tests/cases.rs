@@ -1,4 +1,4 @@
-//! The twelve cases of document 01, "Cases to prove".
+//! The twelve cases of document 01, "Cases to prove"; (l) as document 02's P2 amends it.
 
 use haul_tape_twin::cipher::State;
 use haul_tape_twin::ticket::{pack, pack_head, unpack, unpack_head, Head, Ticket};
@@ -100,5 +100,32 @@ fn cases_j_to_l() {
     assert!(Ticket { tipped: 43199, ..t }.is_valid());
     assert!(!Ticket { tipped: 43200, ..t }.is_valid());
     assert!(Ticket { loaded: 4200, ..t }.is_valid());
-    assert!(!Ticket { tare: 250000, ..t }.is_valid());
+    assert!(Ticket { tare: 250000, ..t }.is_valid());
+    assert!(!Ticket { tare: 250001, ..t }.is_valid());
+}
+
+/// Document 02, P2: the example beside number 4, and the weights around it.
+#[test]
+fn trips_back_empty() {
+    for (gross, tare, valid) in [
+        (5, 4, true),
+        (5, 5, true),
+        (5, 6, false),
+        (0, 0, true),
+        (0, 1, false),
+    ] {
+        let ticket = Ticket {
+            gross,
+            tare,
+            ..TICKET
+        };
+        assert_eq!(ticket.is_valid(), valid, "{gross} and {tare}");
+        let mut out = [0; 13];
+        let answer = if valid { Ok(13) } else { Err(4) };
+        assert_eq!(pack(&ticket, &mut out), answer);
+        if valid {
+            assert_eq!(unpack(&out), Ok(ticket));
+            assert_eq!(ticket.net(), gross - tare);
+        }
+    }
 }

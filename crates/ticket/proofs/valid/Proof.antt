@@ -3,8 +3,8 @@ use Prim.Native.Nat.{ℕ}
 use mathlib.Core.Path.{_≡_, refl}
 use mathlib.Core.Bool.{Bool, true, false, _&&_, and-assoc, and-true, and-false}
 use native.Mathlib.Omega.{arith}
-use borrow.Author.Tests.{leb-true, ltb-true, le-leb}
-use lib.Dec.{leb, ltb, leb·zero}
+use borrow.Author.Tests.{leb-true, le-leb}
+use lib.Dec.{leb, leb·zero}
 use Rattle.tape_model.specs.Ticket.{ticketRule, valuesRule, ordered}
 use Rattle.ticket.proofs.valid.Statement.{statement}
 use Rattle.ticket.proofs.valid.Tie as tie
@@ -24,9 +24,6 @@ regroup a b c d e f false h i j k p q = simp (and-false)
 within : (v w n : ℕ) → leb w n ≡ true → leb v w ≡ true → leb v n ≡ true
 within v w n p q = let a = leb-true w n p in let b = leb-true v w q in le-leb v n (omega arith)
 
-below : (v w n : ℕ) → leb w n ≡ true → ltb v w ≡ true → leb v n ≡ true
-below v w n p q = let a = leb-true w n p in let b = ltb-true v w q in le-leb v n (omega arith)
-
 returns : tie.Need-returns
 unfolding ticketRule valuesRule ordered
 returns c =
@@ -43,9 +40,9 @@ returns c =
     (leb (t .gross) 1048575)
     (leb (t .tare) 1048575)
     (leb (t .loaded) (t .tipped))
-    (ltb (t .tare) (t .gross))
+    (leb (t .tare) (t .gross))
     (within (t .loaded) (t .tipped) 43199)
-    (below (t .tare) (t .gross) 1048575))
+    (within (t .tare) (t .gross) 1048575))
 
 pub valid-spec : {M : Type 1} → statement M
 valid-spec = tie.close (tie.spec returns)

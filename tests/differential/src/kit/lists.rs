@@ -1,7 +1,7 @@
 //! Lists of calls on sessions and writers.
 
 use super::{broken_heads, broken_tickets, head_fields, hex, line, star, ticket_fields, File};
-use super::{GREATEST, HEAD, SMALLEST, TICKET};
+use super::{EMPTY_TRIPS, GREATEST, HEAD, SMALLEST, TARE_ABOVE_GROSS, TICKET};
 use crate::both::{self, Ran};
 use crate::calls::{SessionCall, Sessions, WriterCall, Writers};
 use crate::random::{turned, Random};
@@ -418,9 +418,23 @@ fn writers(lines: &mut Lines) {
     lines.writer("No ticket.", &[start(), finish()]);
     lines.writer("Document 01's ticket.", &[start(), add(TICKET), finish()]);
     let mut calls = vec![start(), add(SMALLEST), add(GREATEST)];
-    calls.extend((0..6).map(|_| add(random.ticket())));
+    calls.extend((0..6).map(|_| add(random.ticket_with_load())));
     calls.push(finish());
     lines.writer("Eight tickets.", &calls);
+    let [first, second, third] = EMPTY_TRIPS;
+    lines.writer(
+        "Trips back empty. A tare above the gross is 4.",
+        &[
+            start(),
+            add(TARE_ABOVE_GROSS),
+            add(first),
+            add(second),
+            add(TICKET),
+            add(TARE_ABOVE_GROSS),
+            add(third),
+            finish(),
+        ],
+    );
 
     let mut calls = vec![
         add(TICKET),
@@ -504,6 +518,7 @@ fn writers(lines: &mut Lines) {
             add_into(TICKET, 12),
             add(GREATEST),
             add(TICKET),
+            add(first),
             add(broken),
             add_into(broken, 0),
             add_into(TICKET, 12),

@@ -1,7 +1,7 @@
 //! Tapes opened into rooms of several lengths.
 
-use super::{bytes_of, hex, line, pack_head_anyway, star, tapes, File};
-use super::{GREATEST, HEAD, SMALLEST, TICKET};
+use super::{bytes_of, hex, line, pack_anyway, pack_head_anyway, star, tapes, File};
+use super::{EMPTY_TRIPS, GREATEST, HEAD, SMALLEST, TARE_ABOVE_GROSS, TICKET};
 use crate::both::{self, Ran};
 use crate::calls::write_tape;
 use crate::random::turned;
@@ -67,6 +67,13 @@ pub(super) fn openings(tapes: &[File]) -> File {
     lines.title("Too little.");
     lines.opened(k, t, &[12, 0]);
     lines.opened(k, &three, &[38, 26, 13, 0]);
+    lines.title("Trips back empty, alone and with another ticket: they count, and add no net.");
+    for empty in EMPTY_TRIPS {
+        lines.opened(k, &hex(&write_tape(&key, HEAD, &[empty])), &[13]);
+    }
+    let [first, second, third] = EMPTY_TRIPS;
+    let tape_of_four = hex(&write_tape(&key, HEAD, &[first, second, TICKET, third]));
+    lines.opened(k, &tape_of_four, &[52, 51]);
     lines.title("5,000 tickets.");
     lines.long("5000_tickets", tapes);
 
@@ -96,14 +103,20 @@ pub(super) fn openings(tapes: &[File]) -> File {
 
     lines.title("7 before 8.");
     lines.opened(k, &hex(&wrong_tag(&bad_ticket)), &[13]);
-    lines.title("8 wherever the bad ticket stands.");
-    for tickets in [
-        [&bad[..], &ticket, &ticket],
-        [&ticket, &bad, &ticket],
-        [&ticket, &ticket, &bad],
+    let tare_above = pack_anyway(TARE_ABOVE_GROSS).expect("the ticket fits its widths");
+    for (title, bad) in [
+        ("8 wherever the bad ticket stands.", &bad[..]),
+        ("The same, with tare 6 and gross 5.", &tare_above),
     ] {
-        let tape = tapes::sealed(&key, head, &tickets.concat());
-        lines.opened(k, &hex(&tape), &[39]);
+        lines.title(title);
+        for tickets in [
+            [bad, &ticket, &ticket],
+            [&ticket, bad, &ticket],
+            [&ticket, &ticket, bad],
+        ] {
+            let tape = tapes::sealed(&key, head, &tickets.concat());
+            lines.opened(k, &hex(&tape), &[39]);
+        }
     }
     File::text("openings.txt", lines.0)
 }

@@ -1,7 +1,8 @@
 //! Tickets and heads, packed; and those that do not pack or unpack.
 
 use super::{broken_heads, broken_tickets, head_fields, hex, line, ticket_fields};
-use super::{pack_anyway, pack_head_anyway, File, GREATEST, HEAD, SMALLEST, TICKET};
+use super::{pack_anyway, pack_head_anyway, File};
+use super::{EMPTY_TRIPS, GREATEST, HEAD, SMALLEST, TICKET};
 use crate::both;
 use crate::random::{turned, Random};
 use haul_tape::{Head, Ticket};
@@ -19,7 +20,13 @@ pub(super) fn packed() -> File {
         tipped: 43_199,
         ..TICKET
     });
-    tickets.extend((0..20).map(|_| random.ticket()));
+    tickets.extend(EMPTY_TRIPS);
+    tickets.push(Ticket {
+        gross: 5,
+        tare: 5,
+        ..TICKET
+    });
+    tickets.extend((0..20).map(|_| random.ticket_with_load()));
     for ticket in tickets {
         let packed = both::pack_ticket(ticket, 13).out;
         assert_eq!(both::unpack_ticket(&packed), Ok(ticket));
@@ -67,6 +74,9 @@ pub(super) fn packed() -> File {
     // The bits of form and spare.
     for bit in [4, 5, 6, 7, 96, 97] {
         refused_ticket(&turned(&ticket, bit));
+    }
+    for trip in EMPTY_TRIPS {
+        refused_ticket(&turned(&trip.pack().expect("an empty trip packs"), 97));
     }
     for packed in broken_tickets().into_iter().filter_map(pack_anyway) {
         refused_ticket(&packed);

@@ -1,7 +1,7 @@
 //! Readings: the tickets of plain bytes in turn.
 
 use super::{bytes_of, hex, line, pack_anyway, star, ticket_fields, File};
-use super::{GREATEST, SMALLEST, TICKET};
+use super::{EMPTY_TRIPS, GREATEST, SMALLEST, TARE_ABOVE_GROSS, TICKET};
 use crate::both;
 use crate::random::turned;
 use haul_tape::{exports, Ticket};
@@ -93,6 +93,12 @@ pub(super) fn readings() -> File {
     lines.reader("Document 01's ticket.", &hex(&good), 3);
     let three = [SMALLEST, TICKET, GREATEST].map(packed).concat();
     lines.reader("Three tickets.", &hex(&three), 6);
+    let plain = [&good[..], &EMPTY_TRIPS.map(packed).concat()].concat();
+    lines.reader(
+        "Document 01's ticket, then three trips back empty.",
+        &hex(&plain),
+        5,
+    );
     lines.reader(
         "As many as there may be.",
         &format!("5000x{}", hex(&good)),
@@ -114,7 +120,8 @@ pub(super) fn readings() -> File {
             "is loaded after it is tipped",
             Ticket { loaded: 4_201, ..t },
         ),
-        ("has a tare like its gross", Ticket { tare: 250_000, ..t }),
+        ("has a tare above its gross", Ticket { tare: 250_001, ..t }),
+        ("has tare 6 and gross 5", TARE_ABOVE_GROSS),
     ] {
         let broken = pack_anyway(broken).expect("the ticket fits its widths");
         let plain = [&good[..], &good, &broken].concat();

@@ -1,7 +1,7 @@
 //! Tapes with their listings.
 
 use super::{head_fields, hex, pack_anyway, pack_head_anyway, ticket_fields, File};
-use super::{GREATEST, HEAD, SMALLEST, TICKET};
+use super::{EMPTY_TRIPS, GREATEST, HEAD, SMALLEST, TICKET};
 use crate::both;
 use crate::calls::write_tape;
 use crate::random::{turned, Random};
@@ -51,7 +51,7 @@ fn refused(name: &str, key: &[u8], tape: Vec<u8>) -> [File; 3] {
 }
 
 /// A tape with these bytes as its head and these as its plain tickets, whatever they are.
-pub(super) fn sealed(key: &[u8], head: [u8; 9], plain: &[u8]) -> Vec<u8> {
+pub fn sealed(key: &[u8], head: [u8; 9], plain: &[u8]) -> Vec<u8> {
     let sealed = both::seal(key, &nonce_of(&head), &head, plain, plain.len() + 16);
     sealed.answer.expect("the message is sealed");
     [&head, &sealed.out[..]].concat()
@@ -74,7 +74,8 @@ pub(super) fn key_and_tape(name: &str, files: &[File]) -> (String, Vec<u8>) {
 
 pub(super) fn tapes() -> Vec<File> {
     let mut random = Random::new(7);
-    let mut tickets = |n: usize| -> Vec<Ticket> { (0..n).map(|_| random.ticket()).collect() };
+    let mut tickets =
+        |n: usize| -> Vec<Ticket> { (0..n).map(|_| random.ticket_with_load()).collect() };
     let three = [SMALLEST, TICKET, GREATEST];
     let forty = tickets(40);
     // heavy, so that their total does not fit in 32 bits
@@ -100,6 +101,9 @@ pub(super) fn tapes() -> Vec<File> {
     files.extend(good("3_tickets", &random.block(), greatest, &three));
     files.extend(good("40_tickets", &random.block(), random.head(), &forty));
     files.extend(good("5000_tickets", &random.block(), random.head(), &most));
+    let third_sheet = Head { sheet: 3, ..HEAD };
+    let empty_trips = [&[TICKET], &EMPTY_TRIPS[..]].concat();
+    files.extend(good("empty_trips", &key, third_sheet, &empty_trips));
 
     let tape = write_tape(&key, HEAD, &[TICKET]);
     let head = HEAD.pack().expect("document 01's head packs");
@@ -170,7 +174,7 @@ pub(super) fn tapes() -> Vec<File> {
                 ..t
             },
         ),
-        ("tare_is_gross", Ticket { tare: 250_000, ..t }),
+        ("tare_above_gross", Ticket { tare: 250_001, ..t }),
     ] {
         let wrong = pack_anyway(wrong).expect("the ticket fits its widths");
         files.extend(refused(name, &key, sealed(&key, head, &wrong)));

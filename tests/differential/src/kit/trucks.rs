@@ -1,7 +1,7 @@
 //! The trucks on one opened tape and on two.
 
 use super::{bytes_of, hex, line, pack_anyway, star, tapes, File};
-use super::{GREATEST, SMALLEST, TICKET};
+use super::{EMPTY_TRIPS, GREATEST, SMALLEST, TARE_ABOVE_GROSS, TICKET};
 use crate::both;
 use crate::random::turned;
 use haul_tape::Ticket;
@@ -122,6 +122,14 @@ pub(super) fn trucks(tapes: &[File]) -> File {
     lines.one(&format!("2500x{good}+2500x{other}"));
     lines.one(&format!("{}+4998x{good}+{}", tape(&[1_023]), tape(&[1])));
 
+    lines.title("Trips back empty: their trucks are counted.");
+    lines.one("empty_trips.txt");
+    let empty = EMPTY_TRIPS.map(|t| both::pack_ticket(t, 13).out);
+    lines.one(&hex(&empty.concat()));
+    for packed in &empty {
+        lines.one(&hex(packed));
+    }
+
     lines.title("1, 12, 14, 25 and 27 bytes (26 are right), and around 5,000 tickets.");
     for length in [1, 12] {
         lines.one(&hex(&ticket[..length]));
@@ -138,7 +146,7 @@ pub(super) fn trucks(tapes: &[File]) -> File {
 
     lines.title("A ticket that does not unpack: a spare bit is set, 13 zero bytes, truck 0,");
     lines.lines.push(
-        "# grade 10, loaded above tipped, a tare above the gross, 65,000 bytes by rule."
+        "# grade 10, loaded above tipped, a tare above the gross (two), 65,000 bytes by rule."
             .to_string(),
     );
     lines.one(bad);
@@ -149,6 +157,7 @@ pub(super) fn trucks(tapes: &[File]) -> File {
         Ticket { grade: 10, ..t },
         Ticket { loaded: 4_201, ..t },
         Ticket { tare: 250_001, ..t },
+        TARE_ABOVE_GROSS,
     ] {
         let broken = pack_anyway(broken).expect("the ticket fits its widths");
         lines.one(&hex(&broken));
@@ -186,6 +195,8 @@ pub(super) fn trucks(tapes: &[File]) -> File {
     lines.title("Tapes of the directory, and 5,000 tickets.");
     lines.both_orders("3_tickets.txt", "1_ticket.txt");
     lines.both_orders("40_tickets.txt", "5000_tickets.txt");
+    lines.both_orders("empty_trips.txt", "1_ticket.txt");
+    lines.both_orders("empty_trips.txt", &tape(&[1, 6]));
     lines.both_orders("5000_tickets.txt", &tape(&ends()));
     lines.two("5000_tickets.txt", "5000_tickets.txt");
     lines.both_orders(&format!("5000x{good}"), &format!("5000x{other}"));
