@@ -1,60 +1,6 @@
-//! The twelve cases of document 01, "Cases to prove"; (l) as document 02's P2 amends it.
+//! Cases (h) to (l) of document 01, "Cases to prove"; (l) as document 02's P2 amends it. Those of one step, (a) to (g), are in step_cases.rs.
 
-use haul_tape_twin::cipher::State;
 use haul_tape_twin::ticket::{pack, pack_head, unpack, unpack_head, Head, Ticket};
-
-/// One step from a state of zeros but for the bit named.
-struct StepCase {
-    name: char,
-    set: Option<usize>,
-    m: bool,
-    /// `None` where the case does not name the control bit; it must then hold for both values.
-    ca: Option<bool>,
-    cb: Option<bool>,
-    /// The keystream bit, where the case names it.
-    ks: Option<bool>,
-    /// Bits after the step.
-    after: &'static [(usize, bool)],
-}
-
-#[rustfmt::skip]
-const STEP_CASES: [StepCase; 7] = [
-    StepCase { name: 'a', set: None, m: false, ca: Some(true), cb: Some(true), ks: Some(false), after: &[(292, true)] },
-    StepCase { name: 'b', set: None, m: true, ca: None, cb: None, ks: None, after: &[(292, false)] },
-    StepCase { name: 'c', set: Some(0), m: false, ca: None, cb: None, ks: Some(false), after: &[(292, false), (60, true)] },
-    StepCase { name: 'd', set: Some(66), m: false, ca: None, cb: Some(true), ks: Some(true), after: &[(292, true), (106, true)] },
-    StepCase { name: 'e', set: Some(66), m: false, ca: None, cb: Some(false), ks: None, after: &[(292, false)] },
-    StepCase { name: 'f', set: Some(196), m: false, ca: Some(true), cb: None, ks: None, after: &[(292, false)] },
-    StepCase { name: 'g', set: Some(196), m: false, ca: Some(false), cb: None, ks: None, after: &[(292, true)] },
-];
-
-#[test]
-fn cases_a_to_g() {
-    for case in STEP_CASES {
-        for ca in [false, true] {
-            for cb in [false, true] {
-                if case.ca.is_some_and(|named| named != ca)
-                    || case.cb.is_some_and(|named| named != cb)
-                {
-                    continue;
-                }
-                let mut bits = [false; 293];
-                if let Some(place) = case.set {
-                    bits[place] = true;
-                }
-                let mut state = State::from_bits(bits);
-                let ks = state.step(|_| case.m, ca, cb);
-                if let Some(named) = case.ks {
-                    assert_eq!(ks, named, "case ({}), ks", case.name);
-                }
-                for &(place, bit) in case.after {
-                    assert_eq!(state.bits()[place], bit, "case ({}), S{place}", case.name);
-                }
-                assert_eq!(state.steps(), 1);
-            }
-        }
-    }
-}
 
 const TICKET: Ticket = Ticket {
     form: 1,
