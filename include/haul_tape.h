@@ -7,38 +7,44 @@
  * There is no global state: calls on different structs and buffers may run at the same time.
  *
  * Secrets: the words of a session or writer that is not closed are as secret as its key. A close that is done or ends with 7, and a
- * finish that is done, put zeros in place of the cipher's state, so that counts and phase are left; one that is sent back stores
- * nothing. A session or writer that is given up is cleared by setting it fresh. After an opening refused with 7 or 8, or a listing
- * refused with 6, no 8 bytes of the decrypted text in a row are on the stack, nor the whole of a text of 4 to 7; after 8 and after 6
- * single fields of a ticket and sums may be. A call that is done may leave text there; a call on opened bytes may leave fields of
- * tickets and sets of trucks there, done or refused. Every call that runs the cipher may leave words of its state there, and these with the ciphertext give the
- * text: a caller that must not leave them overwrites the stack below the call. In sealing, sessions, the writer, opening and
- * listing no branch and no address depends on the key, the text or the state, but for the verdict on a tag, the rule on a ticket,
- * and what a listing prints. Tested, as built for x86-64.
+ * finish that is done, put zeros in place of the cipher's state, so that counts, phase and the tag's length are left; one that is
+ * sent back stores nothing. A session or writer that is given up is cleared by setting it fresh. After an opening refused with 7 or
+ * 8, or a listing refused with 6, no 8 bytes of the decrypted text in a row are on the stack, nor the whole of a text of 4 to 7;
+ * after 8 and after 6 single fields of a ticket and sums may be. A call that is done may leave text there; a call on opened bytes may
+ * leave fields of tickets and sets of trucks there, done or refused. Every call that runs the cipher may leave words of its state
+ * there, and these with the ciphertext give the text: a caller that must not leave them overwrites the stack below the call. In
+ * sealing, sessions, the writer, opening and listing no branch and no address depends on the key, the text or the state, but for the
+ * verdict on a tag, the rule on a ticket, and what a listing prints. Tested, as built for x86-64.
  *
- * Never use a key and nonce for a second message, nor a key and head for a second tape: nothing here can notice it.
+ * Never use a key and nonce for a second message, nor with two lengths of tag, nor a key and head for a second tape: nothing here can
+ * notice it. One try at guessing a tag of n bytes succeeds with a probability of 2^(-8n), and many tries add up: sixteen bytes are
+ * recommended.
  *
  * Stack, at most, from the return address down, tested on x86-64 (a dynamic linker that binds memcpy and memset late takes more,
  * once):
  *
  *   ht_open       640 bytes without text; 3 KiB for text up to 2,048 bytes, 10 KiB up to 8,192, 20 KiB up to 16,384, 74 KiB above
+ *   ht_open_tag   as ht_open
  *   ht_open_tape  1,280 bytes up to 39 tickets; 4 KiB up to 157, 10 KiB up to 630, 66 KiB above
  *   ht_list_tape  65 KiB
  *   each other    640 bytes
  *
  * Each answer has a field `refused`: 0 where the call was done, else the number that sent it back. The smallest number that
- * applies is given, and the rest of the answer is 0 (a reading's position stays). A refused call changes nothing: every
- * word of its struct and every byte of its buffers is as it was; but a wrong tag (7) closes a checking session.
+ * applies is given, but 9 is tried right after 1, before 2; and the rest of the answer is 0 (a reading's position stays). The numbers
+ * beside a call stand in the order in which they are tried. A refused call changes nothing: every word of its struct and every byte of
+ * its buffers is as it was; but a wrong tag (7) closes a checking session.
  *
  *   1  the call does not fit the phase, or is meant for the other kind of session
- *   2  a key, nonce or tag that is not 16 bytes; sealed bytes under 16; a tape that is not 25 + 13n bytes, or tickets' bytes
- *      that are not 13n, with n at most 5,000; a packed ticket that is not 13 bytes, a packed head that is not 9
+ *   2  a key or nonce that is not 16 bytes; a tag of another length than the one fixed; sealed bytes shorter than the tag; a tape that
+ *      is not 25 + 13n bytes, or tickets' bytes that are not 13n, with n at most 5,000; a packed ticket that is not 13 bytes, a packed
+ *      head that is not 9
  *   3  a head field outside its range
  *   4  a ticket to be written breaks a rule
  *   5  more than 65,536 bytes of data, or of text; a 5,001st ticket
  *   6  the output is too short
  *   7  the tag differs
  *   8  a ticket does not unpack
+ *   9  the length asked for a tag is not 8 to 16 bytes
  */
 #ifndef HAUL_TAPE_H
 #define HAUL_TAPE_H
@@ -52,7 +58,8 @@ extern "C" {
 
 #define HT_KEY_BYTES 16
 #define HT_NONCE_BYTES 16
-#define HT_TAG_BYTES 16
+#define HT_TAG_BYTES 16        /* where no other length is fixed, and the most */
+#define HT_LEAST_TAG_BYTES 8
 #define HT_TICKET_BYTES 13
 #define HT_HEAD_BYTES 9
 #define HT_MOST_BYTES 65536    /* of data, and of text, in one message */
@@ -82,12 +89,19 @@ ht_written ht_seal(const uint8_t *key, size_t keylen, const uint8_t *nonce, size
 ht_written ht_open(const uint8_t *key, size_t keylen, const uint8_t *nonce, size_t noncelen, const uint8_t *data, size_t datalen,
     const uint8_t *sealed, size_t sealedlen, uint8_t *out, size_t outlen);
 
+/* The same with a tag of taglen bytes, 8 to 16, which are the last of the sixteen: sealing writes textlen + taglen bytes, opening
+ * sealedlen - taglen. Whoever opens must know the length, as the sealed bytes do not tell it. 9, 2, 5, 6; opening 7, too. */
+ht_written ht_seal_tag(const uint8_t *key, size_t keylen, const uint8_t *nonce, size_t noncelen, const uint8_t *data, size_t datalen,
+    const uint8_t *text, size_t textlen, size_t taglen, uint8_t *out, size_t outlen);
+ht_written ht_open_tag(const uint8_t *key, size_t keylen, const uint8_t *nonce, size_t noncelen, const uint8_t *data, size_t datalen,
+    const uint8_t *sealed, size_t sealedlen, size_t taglen, uint8_t *out, size_t outlen);
+
 /* ---- sessions: a message in pieces ---- */
 
 /* A session. Its words are its own: set it by one of the two calls below. Two copies that both go on would use one keystream
- * twice: go on from one copy only. The words are not for storing, nor for another version of the library. Any ten words are some
+ * twice: go on from one copy only. The words are not for storing, nor for another version of the library. Any eleven words are some
  * session: none make a call unsafe. */
-typedef struct { uint64_t words[10]; } ht_session;
+typedef struct { uint64_t words[11]; } ht_session;
 
 void ht_session_fresh_sealing(ht_session *s);
 void ht_session_fresh_checking(ht_session *s);
@@ -97,12 +111,16 @@ void ht_session_fresh_checking(ht_session *s);
 ht_answer ht_session_begin(ht_session *s, const uint8_t *key, size_t keylen, const uint8_t *nonce, size_t noncelen); /* 1, 2 */
 ht_answer ht_session_data(ht_session *s, const uint8_t *piece, size_t piecelen);                                     /* 1, 5 */
 
-/* sealing: writes the ciphertext of the piece; the close writes the tag */
+/* A begin, too, which fixes the tag's length: taglen bytes, 8 to 16, which are the last of the sixteen. ht_session_begin fixes sixteen; a
+ * refused begin fixes nothing. 1, 9, 2. */
+ht_answer ht_session_begin_tag(ht_session *s, const uint8_t *key, size_t keylen, const uint8_t *nonce, size_t noncelen, size_t taglen);
+
+/* sealing: writes the ciphertext of the piece; the close writes the tag, of the length fixed */
 ht_answer ht_session_seal_text(ht_session *s, const uint8_t *piece, size_t piecelen, uint8_t *out, size_t outlen); /* 1, 5, 6 */
 ht_answer ht_session_seal_close(ht_session *s, uint8_t *out, size_t outlen);                                       /* 1, 6 */
 
-/* checking: takes ciphertext and writes nothing; the close is given the tag. 7 closes the session, too. There is no opening in pieces:
- * text is given by ht_open alone. */
+/* checking: takes ciphertext and writes nothing; the close is given the tag, of the length fixed. 7 closes the session, too. There is no
+ * opening in pieces: text is given by ht_open and ht_open_tag alone. */
 ht_answer ht_session_check_text(ht_session *s, const uint8_t *piece, size_t piecelen); /* 1, 5 */
 ht_answer ht_session_check_close(ht_session *s, const uint8_t *tag, size_t taglen);    /* 1, 2, 7 */
 

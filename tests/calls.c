@@ -1,6 +1,6 @@
 /* Every call of the header: two tickets go onto a tape, the tape is opened and read back, a message is sealed and checked in pieces,
- * the trucks of tapes are counted, and tickets are judged by their weights. Prints what it read, and ends with 1 where anything is not
- * as it should be.
+ * the trucks of tapes are counted, tickets are judged by their weights, and messages have tags of every length. Prints what it read, and
+ * ends with 1 where anything is not as it should be.
  */
 #include "haul_tape.h"
 
@@ -16,6 +16,7 @@ _Static_assert(sizeof(ht_ticket) == 24 && offsetof(ht_ticket, truck) == 2 && off
 _Static_assert(sizeof(ht_head) == 12 && sizeof(ht_answer) == 24 && sizeof(ht_written) == 16 && sizeof(ht_opened) == 24, "layout");
 _Static_assert(sizeof(ht_reading) == 40 && sizeof(ht_unpacked_ticket) == 28 && sizeof(ht_unpacked_head) == 16, "layout");
 _Static_assert(sizeof(ht_truck_count) == 8 && sizeof(ht_truck_counts) == 16 && sizeof(ht_truck_set) == 128, "layout");
+_Static_assert(sizeof(ht_session) == 88 && sizeof(ht_writer) == 96, "layout");
 
 static void must(int holds, const char *what)
 {
@@ -276,7 +277,7 @@ static void fill(uint8_t *bytes, size_t n)
 static void must_be_filled(const uint8_t *bytes, size_t n)
 {
     for (size_t i = 0; i < n; i++)
-        must(bytes[i] == 0x5a, "a refused call writes");
+        must(bytes[i] == 0x5a, "a byte is written that must not be");
 }
 
 /* A ticket with this gross and tare, on a tape behind another. It keeps the rule where the tare is at most the gross. */
@@ -372,6 +373,331 @@ static void weights(void)
     printf("tare at most gross is taken, with net 0 where they are equal, and tare above gross is not\n");
 }
 
+/* ---- tags of 8 to 16 bytes ---- */
+
+static const uint8_t tag_nonce[HT_NONCE_BYTES] = {2}, tag_data[] = "station 7", tag_text[] = "pump 2 stopped at 04:10";
+#define DATA_BYTES sizeof tag_data
+#define TEXT_BYTES sizeof tag_text
+#define TAG_STEPS (3072 + 8 * (DATA_BYTES + TEXT_BYTES))
+
+static uint8_t long_sealed[TEXT_BYTES + HT_TAG_BYTES]; /* with all sixteen bytes, by ht_seal */
+static uint8_t long_bytes[HT_MOST_BYTES + HT_TAG_BYTES + 1], much[HT_MOST_BYTES + HT_TAG_BYTES];
+
+static ht_written seal_tag(size_t taglen, uint8_t *out, size_t outlen)
+{
+    return ht_seal_tag(key, sizeof key, tag_nonce, sizeof tag_nonce, tag_data, DATA_BYTES, tag_text, TEXT_BYTES, taglen, out, outlen);
+}
+
+static ht_written open_tag(const uint8_t *sealed, size_t sealedlen, size_t taglen, uint8_t *out, size_t outlen)
+{
+    return ht_open_tag(key, sizeof key, tag_nonce, sizeof tag_nonce, tag_data, DATA_BYTES, sealed, sealedlen, taglen, out, outlen);
+}
+
+static int wrote(ht_written w, uint32_t refused, uint64_t bytes)
+{
+    return w.refused == refused && w.bytes == bytes;
+}
+
+static int answered(ht_answer a, uint32_t refused, uint64_t bytes, uint64_t steps)
+{
+    return a.refused == refused && a.bytes == bytes && a.steps == steps;
+}
+
+static int same_session(const ht_session *a, const ht_session *b)
+{
+    return memcmp(a, b, sizeof *a) == 0;
+}
+
+/* Whole messages: with more room than is needed, and with just so much. */
+static void whole_with_tag(size_t n, const uint8_t *sealed)
+{
+    const size_t bytes = TEXT_BYTES + n;
+    uint8_t out[TEXT_BYTES + HT_TAG_BYTES + 5], changed[TEXT_BYTES + HT_TAG_BYTES];
+
+    for (size_t room = bytes; room <= sizeof out; room++) {
+        fill(out, sizeof out);
+        must(wrote(seal_tag(n, out, room), 0, bytes), "ht_seal_tag answers otherwise");
+        must(memcmp(out, sealed, bytes) == 0, "ht_seal_tag writes other bytes");
+        must_be_filled(out + bytes, sizeof out - bytes);
+    }
+    for (size_t room = TEXT_BYTES; room <= sizeof out; room++) {
+        fill(out, sizeof out);
+        must(wrote(open_tag(sealed, bytes, n, out, room), 0, TEXT_BYTES), "ht_open_tag answers otherwise");
+        must(memcmp(out, tag_text, TEXT_BYTES) == 0, "another text opens");
+        must_be_filled(out + TEXT_BYTES, sizeof out - TEXT_BYTES);
+    }
+
+    /* refused: short outputs, a bit turned, a byte cut off, another length */
+    fill(out, sizeof out);
+    for (size_t room = 0; room < bytes; room++)
+        must(wrote(seal_tag(n, out, room), 6, 0), "a short output is taken");
+    for (size_t room = 0; room < TEXT_BYTES; room++)
+        must(wrote(open_tag(sealed, bytes, n, out, room), 6, 0), "a short output is taken");
+    for (size_t bit = 0; bit < 8 * bytes; bit++) {
+        memcpy(changed, sealed, bytes);
+        changed[bit / 8] ^= (uint8_t)(1 << bit % 8);
+        must(wrote(open_tag(changed, bytes, n, out, sizeof out), 7, 0), "a changed message opens");
+    }
+    for (size_t cut = 1; cut <= bytes; cut++)
+        must(wrote(open_tag(sealed, bytes - cut, n, out, sizeof out), bytes - cut < n ? 2 : 7, 0), "a cut message opens");
+    for (size_t other = HT_LEAST_TAG_BYTES; other <= HT_TAG_BYTES; other++)
+        must(other == n || wrote(open_tag(sealed, bytes, other, out, sizeof out), 7, 0), "a message opens with another length");
+    must_be_filled(out, sizeof out);
+}
+
+/* A session of either kind before its close. */
+static void up_to_close(ht_session *s, size_t n, int sealing, uint8_t *sealed)
+{
+    const size_t first = 10;
+
+    if (sealing)
+        ht_session_fresh_sealing(s);
+    else
+        ht_session_fresh_checking(s);
+    must(answered(ht_session_begin_tag(s, key, sizeof key, tag_nonce, sizeof tag_nonce, n), 0, 0, 1792), "begin is refused");
+    must(ht_session_data(s, tag_data, DATA_BYTES).refused == 0, "data is refused");
+    for (size_t at = 0, piece = first; at < TEXT_BYTES; at += piece, piece = TEXT_BYTES - first) {
+        ht_answer a = sealing ? ht_session_seal_text(s, tag_text + at, piece, sealed + at, piece) : ht_session_check_text(s, sealed + at, piece);
+        must(a.refused == 0, "text is refused");
+    }
+}
+
+/* In pieces: the close writes, or is given, as many bytes as were fixed. */
+static void pieces_with_tag(size_t n, const uint8_t *sealed)
+{
+    uint8_t out[TEXT_BYTES + HT_TAG_BYTES + 5], tag[2 * HT_TAG_BYTES] = {0};
+    ht_session s, before;
+
+    for (size_t room = 0; room <= HT_TAG_BYTES + 5; room++) {
+        fill(out, sizeof out);
+        up_to_close(&s, n, 1, out);
+        before = s;
+        ht_answer a = ht_session_seal_close(&s, out + TEXT_BYTES, room);
+        if (room < n) {
+            must(answered(a, 6, 0, 0) && same_session(&s, &before), "a tag is written to a short output");
+            must_be_filled(out + TEXT_BYTES, sizeof out - TEXT_BYTES);
+            a = ht_session_seal_close(&s, out + TEXT_BYTES, n);
+        }
+        must(answered(a, 0, n, TAG_STEPS), "close answers otherwise");
+        must(memcmp(out, sealed, TEXT_BYTES + n) == 0, "pieces give other bytes");
+        must_be_filled(out + TEXT_BYTES + n, sizeof out - TEXT_BYTES - n);
+        must(ht_session_seal_close(&s, out, sizeof out).refused == 1, "a closed session is closed again");
+    }
+
+    /* the right tag stands at the end of the first sixteen, so that every other length has right bytes, too */
+    memcpy(tag, long_sealed + TEXT_BYTES, HT_TAG_BYTES);
+    memcpy(out, sealed, TEXT_BYTES);
+    up_to_close(&s, n, 0, out);
+    before = s;
+    for (size_t other = 0; other <= sizeof tag; other++) {
+        const uint8_t *from = other < HT_TAG_BYTES ? tag + HT_TAG_BYTES - other : tag;
+        must(other == n || answered(ht_session_check_close(&s, from, other), 2, 0, 0), "a tag of another length is taken");
+        must(same_session(&s, &before), "a refused call changes the session");
+    }
+    must(answered(ht_session_check_close(&s, tag + HT_TAG_BYTES - n, n), 0, 0, TAG_STEPS), "the tag differs");
+    must(ht_session_check_close(&s, tag + HT_TAG_BYTES - n, n).refused == 1, "a closed session is closed again");
+    for (size_t bit = 0; bit < 8 * n; bit++) {
+        memcpy(tag, sealed + TEXT_BYTES, n);
+        tag[bit / 8] ^= (uint8_t)(1 << bit % 8);
+        s = before;
+        must(answered(ht_session_check_close(&s, tag, n), 7, 0, 0), "a changed tag is taken");
+        must(ht_session_check_close(&s, tag, n).refused == 1, "a session goes on after 7");
+    }
+}
+
+/* The numbers of the calls on whole messages, with less and less that is wrong. A wrong length of the tag is 9, whatever else is wrong. */
+static void order_with_tag(size_t n)
+{
+    const uint32_t length = n < HT_LEAST_TAG_BYTES || n > HT_TAG_BYTES ? 9 : 0;
+    uint8_t out[1];
+    const struct { size_t keylen, noncelen, datalen, textlen, outlen; uint32_t sealing, opening; } cases[] = {
+        {15, 16, HT_MOST_BYTES + 1, HT_MOST_BYTES + 1, 0, 2, 2},
+        {16, 17, HT_MOST_BYTES + 1, HT_MOST_BYTES + 1, 0, 2, 2},
+        {0, 0, 0, 0, 1, 2, 2},
+        {16, 16, HT_MOST_BYTES + 1, 1, 0, 5, 5},
+        {16, 16, 0, HT_MOST_BYTES + 1, 0, 5, 5},
+        {16, 16, HT_MOST_BYTES, HT_MOST_BYTES, 1, 6, 6},
+        {16, 16, 0, 1, 0, 6, 6},
+        {16, 16, 0, 1, 1, 6, 7},
+        {16, 16, 0, 0, 0, 6, 7},
+    };
+
+    fill(out, sizeof out);
+    for (size_t i = 0; i < sizeof cases / sizeof *cases; i++) {
+        const size_t k = cases[i].keylen, m = cases[i].noncelen, d = cases[i].datalen, t = cases[i].textlen, o = cases[i].outlen;
+        const size_t sealedlen = length == 0 ? t + n : t;
+
+        ht_written w = ht_seal_tag(long_bytes, k, long_bytes, m, long_bytes, d, long_bytes, t, n, out, o);
+        must(wrote(w, length != 0 ? length : cases[i].sealing, 0), "ht_seal_tag is refused otherwise");
+        w = ht_open_tag(long_bytes, k, long_bytes, m, long_bytes, d, long_bytes, sealedlen, n, out, o);
+        must(wrote(w, length != 0 ? length : cases[i].opening, 0), "ht_open_tag is refused otherwise");
+    }
+    for (size_t sealedlen = 0; sealedlen < (length == 0 ? n : HT_TAG_BYTES); sealedlen++) {
+        ht_written w = ht_open_tag(long_bytes, 16, long_bytes, 16, long_bytes, HT_MOST_BYTES + 1, long_bytes, sealedlen, n, out, 0);
+        must(wrote(w, length != 0 ? length : 2, 0), "ht_open_tag takes sealed bytes shorter than the tag");
+    }
+    must_be_filled(out, sizeof out);
+}
+
+/* 1, 9, 2: a refused begin leaves the session as it was, and it can still be begun with any length. */
+static void begins_with_tag(size_t n, int sealing)
+{
+    const uint32_t length = n < HT_LEAST_TAG_BYTES || n > HT_TAG_BYTES ? 9 : 0;
+    static const size_t sizes[][2] = {{16, 16}, {15, 16}, {16, 17}, {0, 0}};
+    uint8_t out[HT_TAG_BYTES + 5];
+    ht_session fresh, s, begun;
+
+    if (sealing)
+        ht_session_fresh_sealing(&fresh);
+    else
+        ht_session_fresh_checking(&fresh);
+    s = fresh;
+    for (size_t i = length == 0 ? 1 : 0; i < sizeof sizes / sizeof *sizes; i++) {
+        ht_answer a = ht_session_begin_tag(&s, key, sizes[i][0], tag_nonce, sizes[i][1], n);
+        must(answered(a, length != 0 ? length : 2, 0, 0) && same_session(&s, &fresh), "ht_session_begin_tag is refused otherwise");
+    }
+    for (size_t taglen = 0; taglen <= HT_TAG_BYTES; taglen = taglen == 0 ? HT_LEAST_TAG_BYTES : taglen + 1) {
+        const size_t fixed = taglen == 0 ? HT_TAG_BYTES : taglen; /* with 0 begin is meant, which fixes sixteen */
+
+        s = fresh;
+        ht_answer a = ht_session_begin_tag(&s, key, 15, tag_nonce, sizeof tag_nonce, n);
+        must(a.refused == (length != 0 ? length : 2), "ht_session_begin_tag is refused otherwise");
+        if (taglen == 0)
+            a = ht_session_begin(&s, key, sizeof key, tag_nonce, sizeof tag_nonce);
+        else
+            a = ht_session_begin_tag(&s, key, sizeof key, tag_nonce, sizeof tag_nonce, taglen);
+        must(answered(a, 0, 0, 1792), "begin answers otherwise");
+        begun = s;
+        for (size_t i = 0; i < sizeof sizes / sizeof *sizes; i++) {
+            a = ht_session_begin_tag(&s, key, sizes[i][0], tag_nonce, sizes[i][1], n);
+            must(answered(a, 1, 0, 0) && same_session(&s, &begun), "a session is begun twice");
+        }
+        must(ht_session_begin(&s, key, sizeof key, tag_nonce, sizeof tag_nonce).refused == 1, "a session is begun twice");
+        fill(out, sizeof out);
+        if (sealing) {
+            must(ht_session_check_close(&s, out, fixed).refused == 1, "a sealing session is closed by the other call");
+            must(answered(ht_session_seal_close(&s, out, sizeof out), 0, fixed, 3072), "close answers otherwise");
+            must_be_filled(out + fixed, sizeof out - fixed);
+        } else {
+            must(ht_session_seal_close(&s, out, sizeof out).refused == 1, "a checking session is closed by the other call");
+            must(ht_session_check_close(&s, out, fixed - 1).refused == 2, "a tag of another length is taken");
+            must(ht_session_check_close(&s, out, fixed + 1).refused == 2, "a tag of another length is taken");
+            must(answered(ht_session_check_close(&s, out, fixed), 7, 0, 0), "another tag is taken");
+        }
+        must(ht_session_begin_tag(&s, key, 15, tag_nonce, sizeof tag_nonce, n).refused == 1, "a closed session is begun");
+    }
+}
+
+/* Of word 10 of a session the lowest eight bits are its tag's length. One that no tag has is read as sixteen, and a call that is not refused
+ * stores sixteen. */
+static void read_as_sixteen(uint64_t length)
+{
+    uint8_t out[TEXT_BYTES + HT_TAG_BYTES];
+    ht_session s, before;
+
+    up_to_close(&s, HT_LEAST_TAG_BYTES, 1, out);
+    must(s.words[10] == HT_LEAST_TAG_BYTES, "a session holds another length");
+    s.words[10] = length;
+    before = s;
+    must(ht_session_seal_close(&s, out + TEXT_BYTES, HT_TAG_BYTES - 1).refused == 6 && same_session(&s, &before), "a refused call changes the session");
+    must(ht_session_seal_text(&s, tag_text, 0, out, 0).refused == 0 && s.words[10] == HT_TAG_BYTES, "a length that no tag has is stored");
+    s = before;
+    must(answered(ht_session_seal_close(&s, out + TEXT_BYTES, HT_TAG_BYTES), 0, HT_TAG_BYTES, TAG_STEPS), "close answers otherwise");
+    must(memcmp(out, long_sealed, sizeof long_sealed) == 0 && s.words[10] == HT_TAG_BYTES, "a length that no tag has is not read as sixteen");
+
+    up_to_close(&s, HT_LEAST_TAG_BYTES, 0, long_sealed);
+    s.words[10] = length;
+    before = s;
+    must(ht_session_check_close(&s, long_sealed + sizeof long_sealed - HT_LEAST_TAG_BYTES, HT_LEAST_TAG_BYTES).refused == 2, "a short tag is taken");
+    must(same_session(&s, &before), "a refused call changes the session");
+    must(answered(ht_session_check_close(&s, long_sealed + TEXT_BYTES, HT_TAG_BYTES), 0, 0, TAG_STEPS), "the tag differs");
+    must(s.words[10] == HT_TAG_BYTES, "a length that no tag has is stored");
+}
+
+/* A number above 7 in word 9 of a session or writer is a closed session: word 9 says nothing of the tag's length. */
+static void read_as_closed(uint64_t number)
+{
+    static const ht_ticket ticket = {.form = 1, .truck = 417, .shovel = 9, .tip = 33, .loaded = 3600, .tipped = 4815, .gross = 5};
+    uint8_t out[TEXT_BYTES + HT_TAG_BYTES];
+    ht_session s, before;
+    ht_writer w, started;
+
+    up_to_close(&s, HT_LEAST_TAG_BYTES, 1, out);
+    s.words[9] = number;
+    before = s;
+    fill(out, sizeof out);
+    must(ht_session_begin(&s, key, sizeof key, tag_nonce, sizeof tag_nonce).refused == 1, "a closed session is begun");
+    must(ht_session_begin_tag(&s, key, sizeof key, tag_nonce, sizeof tag_nonce, 8).refused == 1, "a closed session is begun");
+    must(ht_session_data(&s, tag_data, 1).refused == 1, "a closed session takes data");
+    must(ht_session_seal_text(&s, tag_text, 1, out, 1).refused == 1, "a closed session takes text");
+    must(ht_session_check_text(&s, tag_text, 1).refused == 1, "a closed session takes text");
+    must(ht_session_seal_close(&s, out, sizeof out).refused == 1, "a closed session is closed again");
+    must(ht_session_check_close(&s, out, HT_TAG_BYTES).refused == 1, "a closed session is closed again");
+    must(same_session(&s, &before), "a refused call changes the session");
+
+    ht_writer_fresh(&w);
+    must(ht_writer_start(&w, key, sizeof key, (ht_head){7, 2, 1}, out, sizeof out).refused == 0, "start is refused");
+    fill(out, sizeof out);
+    w.words[9] = number;
+    started = w;
+    must(ht_writer_add(&w, ticket, out, sizeof out).refused == 1, "a writer of a closed session takes a ticket");
+    must(ht_writer_finish(&w, out, sizeof out).refused == 1, "a writer of a closed session is finished");
+    must(memcmp(&w, &started, sizeof w) == 0, "a refused call changes the writer");
+    must_be_filled(out, sizeof out);
+}
+
+/* The most bytes of text, and the same with one byte more. */
+static void most_with_tag(size_t n)
+{
+    static uint8_t opened[HT_MOST_BYTES];
+    const uint8_t *nonce = tag_nonce;
+
+    ht_written w = ht_seal_tag(key, 16, nonce, 16, long_bytes, HT_MOST_BYTES, long_bytes, HT_MOST_BYTES, n, much, HT_MOST_BYTES + n);
+    must(wrote(w, 0, HT_MOST_BYTES + n), "the most bytes are refused");
+    w = ht_open_tag(key, 16, nonce, 16, long_bytes, HT_MOST_BYTES, much, HT_MOST_BYTES + n, n, opened, HT_MOST_BYTES);
+    must(wrote(w, 0, HT_MOST_BYTES), "the most bytes do not open");
+    must(memcmp(opened, long_bytes, HT_MOST_BYTES) == 0, "another text opens");
+    w = ht_seal_tag(key, 16, nonce, 16, long_bytes, 0, long_bytes, HT_MOST_BYTES + 1, n, much, sizeof much);
+    must(wrote(w, 5, 0), "a byte of text too many is sealed");
+    w = ht_open_tag(key, 16, nonce, 16, long_bytes, 0, long_bytes, HT_MOST_BYTES + 1 + n, n, opened, sizeof opened);
+    must(wrote(w, 5, 0), "a byte of text too many is opened");
+}
+
+static void tags(void)
+{
+    static const size_t wrong[] = {0, 1, 7, 17, 24, 32, 64, 128, 255, 264, 65544, UINT32_MAX, (size_t)1 << 32 | 8, (size_t)1 << 63 | 16,
+        SIZE_MAX - 15, SIZE_MAX};
+    uint8_t sealed[TEXT_BYTES + HT_TAG_BYTES];
+
+    for (size_t i = 0; i < sizeof long_bytes; i++)
+        long_bytes[i] = (uint8_t)(i * 7 + i / 256);
+    ht_written w = ht_seal(key, sizeof key, tag_nonce, sizeof tag_nonce, tag_data, DATA_BYTES, tag_text, TEXT_BYTES, long_sealed, sizeof long_sealed);
+    must(wrote(w, 0, sizeof long_sealed), "seal is refused");
+    for (size_t n = HT_LEAST_TAG_BYTES; n <= HT_TAG_BYTES; n++) {
+        /* the short tag is the last bytes of the sixteen */
+        memcpy(sealed, long_sealed, TEXT_BYTES);
+        memcpy(sealed + TEXT_BYTES, long_sealed + sizeof long_sealed - n, n);
+        whole_with_tag(n, sealed);
+        pieces_with_tag(n, sealed);
+        order_with_tag(n);
+        begins_with_tag(n, 1);
+        begins_with_tag(n, 0);
+        most_with_tag(n);
+    }
+    for (size_t i = 0; i < sizeof wrong / sizeof *wrong; i++) {
+        order_with_tag(wrong[i]);
+        begins_with_tag(wrong[i], 1);
+        begins_with_tag(wrong[i], 0);
+        if (wrong[i] % 256 < HT_LEAST_TAG_BYTES || wrong[i] % 256 > HT_TAG_BYTES)
+            read_as_sixteen(wrong[i]);
+        if (wrong[i] > 7)
+            read_as_closed(wrong[i]);
+    }
+    for (uint64_t number = 8; number < 80; number++)
+        read_as_closed(number);
+    printf("tags of 8 to 16 bytes are written and checked, and no others\n");
+}
+
 int main(void)
 {
     static const ht_ticket tickets[2] = {
@@ -392,5 +718,6 @@ int main(void)
     message();
     trucks();
     weights();
+    tags();
     return 0;
 }

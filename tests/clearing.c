@@ -67,12 +67,18 @@ static size_t found_on_stack(size_t size)
 
 static uint8_t data[9], text[HT_MOST_BYTES], sealed[HT_MOST_BYTES + HT_TAG_BYTES], tape[HT_MOST_TAPE_BYTES];
 static uint8_t out[HT_MOST_LISTING_BYTES], listing[HT_MOST_LISTING_BYTES];
-static size_t textlen, tapelen, listinglen, outlen;
+static size_t textlen, taglen, tapelen, listinglen, outlen;
 static uint32_t refused;
 
 static void run_open(void)
 {
     refused = ht_open(key, sizeof key, nonce, sizeof nonce, data, sizeof data, sealed, textlen + HT_TAG_BYTES, out, outlen)
+                  .refused;
+}
+
+static void run_open_tag(void)
+{
+    refused = ht_open_tag(key, sizeof key, nonce, sizeof nonce, data, sizeof data, sealed, textlen + taglen, taglen, out, outlen)
                   .refused;
 }
 
@@ -169,6 +175,13 @@ static void message(size_t n)
     look("ht_open, done", run_open, 0, 0, 0);
     sealed[n + random_word() % HT_TAG_BYTES] ^= 1;
     look("ht_open, 7", run_open, 0, 7, 1);
+
+    taglen = HT_LEAST_TAG_BYTES + n % (HT_TAG_BYTES - HT_LEAST_TAG_BYTES + 1);
+    must(ht_seal_tag(key, sizeof key, nonce, sizeof nonce, data, sizeof data, text, n, taglen, sealed, n + taglen).refused == 0,
+        "clearing: no sealing");
+    look("ht_open_tag, done", run_open_tag, 0, 0, 0);
+    sealed[n + random_word() % taglen] ^= 1;
+    look("ht_open_tag, 7", run_open_tag, 0, 7, 1);
 }
 
 static void tape_of(size_t n, enum bad bad)

@@ -1,7 +1,7 @@
 /* Branches and addresses do not depend on secrets. Run by memcheck, which is told that the secret bytes are not defined, and then
  * reports each branch and each address that depends on them. Secret are the key, the text, and the words 0 to 5 of a session or
  * writer, which are the cipher's state. Nonce and data are marked like them where nothing may be reported. Not secret are
- * lengths, heads, ciphertext and tags, nor the counts, kind and phase in a session's or writer's other words.
+ * lengths, heads, ciphertext and tags, nor what the other words hold: counts, kind, phase, and in a session the tag's length.
  *
  * Sealing, sessions and the writer give no report; of a checking session's close the verdict on the tag may be reported. A ticket
  * to be written is judged by the rule, by branches, before it is sealed: so the writer is run with tickets that are not marked,
@@ -135,7 +135,60 @@ static void message(size_t n)
     reports("refused messages", n, 0, 0);
 }
 
+/* The same with a tag of so many bytes. */
+static void message_with_tag(size_t n, size_t taglen)
+{
+    ht_written w;
+
+    SECRET(text, n);
+    SECRET(data, n);
+    SECRET(nonce, sizeof nonce);
+    next("ht_seal_tag");
+    w = ht_seal_tag(key, sizeof key, nonce, sizeof nonce, data, n, text, n, taglen, sealed, n + taglen);
+    reports("ht_seal_tag", n, 0, 0);
+    answers("ht_seal_tag", w.refused, 0);
+    PUBLIC(data, n);
+    PUBLIC(nonce, sizeof nonce);
+    PUBLIC(sealed, n + taglen);
+
+    next("ht_open_tag");
+    w = ht_open_tag(key, sizeof key, nonce, sizeof nonce, data, n, sealed, n + taglen, taglen, out, n);
+    verdict("ht_open_tag", n, w.refused, 0);
+    for (size_t i = 0; i < taglen; i += taglen - 1) {
+        sealed[n + i] ^= 1; /* the tag's first byte, and then its last, too */
+        next("ht_open_tag, 7");
+        w = ht_open_tag(key, sizeof key, nonce, sizeof nonce, data, n, sealed, n + taglen, taglen, out, n);
+        verdict("ht_open_tag, 7", n, w.refused, 7);
+    }
+
+    next("refused messages with a short tag");
+    w = ht_seal_tag(key, sizeof key, nonce, sizeof nonce, data, n, text, n, taglen, out, n + taglen - 1);
+    answers("ht_seal_tag", w.refused, 6);
+    w = ht_seal_tag(key, sizeof key, nonce, sizeof nonce, data, n, text, n, 7, out, sizeof out);
+    answers("ht_seal_tag", w.refused, 9);
+    w = ht_open_tag(key, 15, nonce, sizeof nonce, data, n, sealed, n + taglen, taglen, out, n);
+    answers("ht_open_tag", w.refused, 2);
+    w = ht_open_tag(key, sizeof key, nonce, sizeof nonce, data, n, sealed, taglen - 1, taglen, out, n);
+    answers("ht_open_tag", w.refused, 2);
+    w = ht_open_tag(key, sizeof key, nonce, sizeof nonce, data, n, sealed, n + taglen, 17, out, n);
+    answers("ht_open_tag", w.refused, 9);
+    if (n > 0) {
+        w = ht_open_tag(key, sizeof key, nonce, sizeof nonce, data, n, sealed, n + taglen, taglen, out, n - 1);
+        answers("ht_open_tag", w.refused, 6);
+    }
+    reports("refused messages with a short tag", n, 0, 0);
+}
+
 /* ---- sessions ---- */
+
+/* Begins with a tag of so many bytes; for 0 by the call that fixes sixteen. */
+static ht_answer begin(ht_session *s, size_t taglen)
+{
+    if (taglen == 0)
+        return ht_session_begin(s, key, sizeof key, nonce, sizeof nonce);
+    answers("ht_session_begin_tag", ht_session_begin_tag(s, key, sizeof key, nonce, sizeof nonce, 7).refused, 9);
+    return ht_session_begin_tag(s, key, sizeof key, nonce, sizeof nonce, taglen);
+}
 
 /* What of a session and an answer is not secret must be defined: this would be reported, too. */
 static void counts_known(const ht_session *s, ht_answer *a)
@@ -145,8 +198,9 @@ static void counts_known(const ht_session *s, ht_answer *a)
     (void)VALGRIND_CHECK_MEM_IS_DEFINED(&a->bytes, sizeof a->bytes + sizeof a->steps);
 }
 
-static void session_in_pieces(size_t n, size_t piece)
+static void session_in_pieces(size_t n, size_t piece, size_t taglen)
 {
+    const size_t fixed = taglen == 0 ? HT_TAG_BYTES : taglen;
     uint8_t tag[HT_TAG_BYTES];
     ht_session s;
     ht_answer a;
@@ -156,7 +210,8 @@ static void session_in_pieces(size_t n, size_t piece)
     SECRET(nonce, sizeof nonce);
     next("a sealing session");
     ht_session_fresh_sealing(&s);
-    a = ht_session_begin(&s, key, sizeof key, nonce, sizeof nonce);
+    a = begin(&s, taglen);
+    counts_known(&s, &a);
     for (size_t at = 0; at < n; at += piece) {
         SECRET(&s, STATE_BYTES);
         a = ht_session_data(&s, data + at, piece);
@@ -168,6 +223,7 @@ static void session_in_pieces(size_t n, size_t piece)
         a = ht_session_seal_text(&s, text + at, piece, sealed + at, piece);
         counts_known(&s, &a);
     }
+    answers("ht_session_seal_close", ht_session_seal_close(&s, tag, fixed - 1).refused, 6);
     a = ht_session_seal_close(&s, tag, sizeof tag);
     counts_known(&s, &a);
     (void)VALGRIND_CHECK_MEM_IS_DEFINED(&s, sizeof s); /* nothing of the state is left */
@@ -175,11 +231,12 @@ static void session_in_pieces(size_t n, size_t piece)
     answers("ht_session_seal_close", ht_session_seal_close(&s, tag, sizeof tag).refused, 1);
     reports("a sealing session", n, 0, 0);
 
-    PUBLIC(tag, sizeof tag);
+    PUBLIC(tag, fixed);
     for (uint8_t wrong = 0; wrong <= 1; wrong++) {
         next("a checking session");
         ht_session_fresh_checking(&s);
-        a = ht_session_begin(&s, key, sizeof key, nonce, sizeof nonce);
+        a = begin(&s, taglen);
+        counts_known(&s, &a);
         for (size_t at = 0; at < n; at += piece) {
             SECRET(&s, STATE_BYTES);
             a = ht_session_data(&s, data + at, piece);
@@ -190,11 +247,11 @@ static void session_in_pieces(size_t n, size_t piece)
             a = ht_session_check_text(&s, sealed + at, piece);
             counts_known(&s, &a);
         }
-        answers("ht_session_check_close", ht_session_check_close(&s, tag, 15).refused, 2);
+        answers("ht_session_check_close", ht_session_check_close(&s, tag, fixed - 1).refused, 2);
         reports("a checking session", n, 0, 0);
         tag[0] ^= wrong;
         next("ht_session_check_close");
-        a = ht_session_check_close(&s, tag, sizeof tag);
+        a = ht_session_check_close(&s, tag, fixed);
         (void)VALGRIND_CHECK_MEM_IS_DEFINED(&s, sizeof s);
         verdict("ht_session_check_close", n, a.refused, wrong ? 7 : 0);
     }
@@ -298,10 +355,14 @@ int main(void)
     random_bytes(data, sizeof data);
     random_bytes(text, sizeof text);
     control();
-    for (size_t i = 0; i < sizeof lengths / sizeof *lengths; i++)
+    for (size_t i = 0; i < sizeof lengths / sizeof *lengths; i++) {
         message(lengths[i]);
+        message_with_tag(lengths[i], HT_LEAST_TAG_BYTES + i % 9); /* 19 text lengths: each tag length has two */
+    }
     for (size_t i = 0; i < sizeof pieces / sizeof *pieces; i++)
-        session_in_pieces(pieces[i][0], pieces[i][1]);
+        session_in_pieces(pieces[i][0], pieces[i][1], 0);
+    for (size_t taglen = HT_LEAST_TAG_BYTES; taglen <= HT_TAG_BYTES; taglen++)
+        session_in_pieces(30, 3, taglen);
     for (size_t i = 0; i < sizeof tickets / sizeof *tickets; i++) {
         write_tape(tickets[i], 0);
         write_tape(tickets[i], 1);

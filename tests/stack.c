@@ -21,7 +21,7 @@
 #define ANY SIZE_MAX
 
 /* What the header promises: bytes of stack by call. An opening or listing may have several rows, by the bytes of text that it opens
- * (sealedlen - 16, tapelen - 25): the first row that reaches so far holds, and the last is for ANY number. */
+ * (sealedlen - 16 or - taglen, tapelen - 25): the first row that reaches so far holds, and the last is for ANY number. */
 static const struct { const char *call; size_t upto; size_t bytes; } promises[] = {
     {"ht_seal", ANY, 640},
     {"ht_open", 0, 640},
@@ -29,9 +29,16 @@ static const struct { const char *call; size_t upto; size_t bytes; } promises[] 
     {"ht_open", 8192, 10 * 1024},
     {"ht_open", 16384, 20 * 1024},
     {"ht_open", ANY, 74 * 1024},
+    {"ht_seal_tag", ANY, 640},
+    {"ht_open_tag", 0, 640},
+    {"ht_open_tag", 2048, 3 * 1024},
+    {"ht_open_tag", 8192, 10 * 1024},
+    {"ht_open_tag", 16384, 20 * 1024},
+    {"ht_open_tag", ANY, 74 * 1024},
     {"ht_session_fresh_sealing", ANY, 640},
     {"ht_session_fresh_checking", ANY, 640},
     {"ht_session_begin", ANY, 640},
+    {"ht_session_begin_tag", ANY, 640},
     {"ht_session_data", ANY, 640},
     {"ht_session_seal_text", ANY, 640},
     {"ht_session_seal_close", ANY, 640},
@@ -64,7 +71,7 @@ static function target;
 
 /* what the call is given; lengths that a case does not name are right ones */
 static struct {
-    size_t keylen, noncelen, datalen, textlen, secondlen, outlen;
+    size_t keylen, noncelen, datalen, textlen, secondlen, taglen, outlen;
     const uint8_t *text; /* text, sealed bytes, a piece, a tag, a tape, packed or plain bytes */
     const uint8_t *second; /* the plain bytes of a second tape */
     ht_session session;
@@ -120,9 +127,12 @@ struct call { const char *name; function run, real, nothing; size_t callers; };
 #define OUT out, given.outlen
 CALL(ht_seal, written, no_written, KEY, NONCE, DATA, TEXT, OUT)
 CALL(ht_open, written, no_written, KEY, NONCE, DATA, TEXT, OUT)
+CALL(ht_seal_tag, written, no_written, KEY, NONCE, DATA, TEXT, given.taglen, OUT)
+CALL(ht_open_tag, written, no_written, KEY, NONCE, DATA, TEXT, given.taglen, OUT)
 CALL_WITHOUT_ANSWER(ht_session_fresh_sealing, &given.session)
 CALL_WITHOUT_ANSWER(ht_session_fresh_checking, &given.session)
 CALL(ht_session_begin, answer, no_session, &given.session, KEY, NONCE)
+CALL(ht_session_begin_tag, answer, no_session, &given.session, KEY, NONCE, given.taglen)
 CALL(ht_session_data, answer, no_session, &given.session, DATA)
 CALL(ht_session_seal_text, answer, no_session, &given.session, TEXT, OUT)
 CALL(ht_session_seal_close, answer, no_session, &given.session, OUT)
@@ -277,18 +287,20 @@ static const size_t lengths[] = {0, 1, 2, 3, 4, 15, 16, 17, 64, 256, 512, 513, 1
     16384, 16385, 32768, 32769, 65535, 65536};
 static const size_t ticket_counts[] = {0, 1, 2, 3, 19, 20, 39, 40, 41, 78, 79, 157, 158, 315, 316, 500, 630, 631, 1260, 1261,
     2520, 2521, 4999, 5000};
+static const size_t tag_lengths[] = {8, 13, 16}, wrong_tag_lengths[] = {0, 7, 17, SIZE_MAX};
 #define COUNT(list) (sizeof(list) / sizeof *(list))
 
 static uint8_t text[HT_MOST_BYTES + 1], sealed[HT_MOST_BYTES + 1 + HT_TAG_BYTES];
 static uint8_t plain[HT_MOST_PLAIN_BYTES], tape[HT_MOST_TAPE_BYTES + HT_TICKET_BYTES];
 static uint8_t other_plain[HT_MOST_PLAIN_BYTES + HT_TICKET_BYTES];
 
-/* right lengths, no text, a good ticket and head, and room for everything */
+/* right lengths, the shortest tag, no text, a good ticket and head, and room for everything */
 static void usual(void)
 {
     memset(&saved, 0, sizeof saved);
     saved.keylen = sizeof key;
     saved.noncelen = sizeof nonce;
+    saved.taglen = HT_LEAST_TAG_BYTES;
     saved.text = saved.second = text;
     saved.outlen = sizeof out;
     saved.head = tape_head;
@@ -339,6 +351,64 @@ static void opening(void)
     }
     usual(), saved.textlen = 15, measure(&ht_open_call, 0, 2);
     usual(), saved.textlen = HT_MOST_BYTES + 17, saved.text = sealed, measure(&ht_open_call, HT_MOST_BYTES, 5);
+}
+
+/* The same calls with tags of other lengths. */
+static void sealing_with_tag(void)
+{
+    for (size_t i = 0; i < COUNT(lengths); i++)
+        for (size_t k = 0; k < COUNT(tag_lengths); k++) {
+            usual();
+            saved.taglen = tag_lengths[k];
+            saved.textlen = lengths[i];
+            for (size_t j = 0; j < COUNT(lengths); j += 15) {
+                saved.datalen = lengths[j];
+                measure(&ht_seal_tag_call, ANY, 0);
+            }
+            saved.outlen = lengths[i] + tag_lengths[k];
+            measure(&ht_seal_tag_call, ANY, 0);
+            saved.outlen--;
+            measure(&ht_seal_tag_call, ANY, 6);
+        }
+    usual(), saved.keylen = 15, measure(&ht_seal_tag_call, ANY, 2);
+    usual(), saved.noncelen = 17, measure(&ht_seal_tag_call, ANY, 2);
+    usual(), saved.textlen = HT_MOST_BYTES + 1, measure(&ht_seal_tag_call, ANY, 5);
+    usual(), saved.datalen = HT_MOST_BYTES + 1, measure(&ht_seal_tag_call, ANY, 5);
+    for (size_t k = 0; k < COUNT(wrong_tag_lengths); k++)
+        usual(), saved.taglen = wrong_tag_lengths[k], measure(&ht_seal_tag_call, ANY, 9);
+}
+
+static void opening_with_tag(void)
+{
+    for (size_t i = 0; i < COUNT(lengths); i++)
+        for (size_t k = 0; k < COUNT(tag_lengths); k++) {
+            size_t n = lengths[i], taglen = tag_lengths[k];
+
+            must(ht_seal_tag(key, sizeof key, nonce, sizeof nonce, data, 9, text, n, taglen, sealed, n + taglen).refused == 0,
+                "stack: no sealing");
+            usual();
+            saved.taglen = taglen;
+            saved.text = sealed;
+            saved.datalen = 9;
+            saved.textlen = n + taglen;
+            measure(&ht_open_tag_call, n, 0);
+            saved.outlen = n;
+            measure(&ht_open_tag_call, n, 0);
+            sealed[n] ^= 1;
+            measure(&ht_open_tag_call, n, 7);
+            if (n > 0)
+                saved.outlen = n - 1, measure(&ht_open_tag_call, n, 6);
+            saved.datalen = HT_MOST_BYTES + 1, measure(&ht_open_tag_call, n, 5);
+            saved.keylen = 0, measure(&ht_open_tag_call, n, 2);
+            saved.taglen = 7, measure(&ht_open_tag_call, n, 9);
+        }
+    for (size_t k = 0; k < COUNT(tag_lengths); k++) {
+        usual(), saved.taglen = tag_lengths[k], saved.textlen = tag_lengths[k] - 1, measure(&ht_open_tag_call, 0, 2);
+        usual(), saved.taglen = tag_lengths[k], saved.textlen = HT_MOST_BYTES + 1 + tag_lengths[k], saved.text = sealed;
+        measure(&ht_open_tag_call, HT_MOST_BYTES, 5);
+    }
+    for (size_t k = 0; k < COUNT(wrong_tag_lengths); k++)
+        usual(), saved.taglen = wrong_tag_lengths[k], saved.textlen = 64, measure(&ht_open_tag_call, 0, 9);
 }
 
 /* a session of the kind in `s`, with data begun */
@@ -396,6 +466,39 @@ static void sessions(void)
     usual(), saved.session = checking, saved.textlen = 16, measure(&ht_session_check_close_call, ANY, 7);
     usual(), saved.session = fresh, saved.textlen = 16, measure(&ht_session_check_close_call, ANY, 1);
     usual(), saved.session = checking, saved.textlen = 15, measure(&ht_session_check_close_call, ANY, 2);
+}
+
+/* A begin with a length, and the closes behind it. */
+static void sessions_with_tag(void)
+{
+    ht_session fresh[2], begun;
+    uint8_t tag[HT_TAG_BYTES];
+
+    ht_session_fresh_sealing(&fresh[0]);
+    ht_session_fresh_checking(&fresh[1]);
+    for (int checking = 0; checking < 2; checking++) {
+        for (size_t k = 0; k < COUNT(wrong_tag_lengths); k++)
+            usual(), saved.session = fresh[checking], saved.taglen = wrong_tag_lengths[k], measure(&ht_session_begin_tag_call, ANY, 9);
+        for (size_t k = 0; k < COUNT(tag_lengths); k++) {
+            size_t n = tag_lengths[k];
+
+            usual(), saved.session = fresh[checking], saved.taglen = n, measure(&ht_session_begin_tag_call, ANY, 0);
+            saved.keylen = 17, measure(&ht_session_begin_tag_call, ANY, 2);
+            begun = fresh[checking];
+            must(ht_session_begin_tag(&begun, key, sizeof key, nonce, sizeof nonce, n).refused == 0, "stack: no begin");
+            saved.session = begun, measure(&ht_session_begin_tag_call, ANY, 1);
+            if (!checking) {
+                usual(), saved.session = begun, measure(&ht_session_seal_close_call, ANY, 0);
+                saved.outlen = n, measure(&ht_session_seal_close_call, ANY, 0);
+                saved.outlen = n - 1, measure(&ht_session_seal_close_call, ANY, 6);
+            } else {
+                must(ht_seal_tag(key, sizeof key, nonce, sizeof nonce, data, 0, text, 0, n, tag, n).refused == 0, "stack: no sealing");
+                usual(), saved.session = begun, saved.text = tag, saved.textlen = n, measure(&ht_session_check_close_call, ANY, 0);
+                saved.text = text, measure(&ht_session_check_close_call, ANY, 7);
+                saved.textlen = n - 1, measure(&ht_session_check_close_call, ANY, 2);
+            }
+        }
+    }
 }
 
 static void tickets_and_heads(void)
@@ -584,7 +687,10 @@ int main(int argc, char **argv)
     control();
     sealing();
     opening();
+    sealing_with_tag();
+    opening_with_tag();
     sessions();
+    sessions_with_tag();
     tickets_and_heads();
     writers();
     tapes();
@@ -599,6 +705,6 @@ int main(int argc, char **argv)
         printf("stack: %d of %d cases take more than is promised\n", faults, cases);
         return 1;
     }
-    printf("stack: %d cases of 24 calls stay within the promised bytes\n", cases);
+    printf("stack: %d cases of 27 calls stay within the promised bytes\n", cases);
     return 0;
 }

@@ -1,24 +1,26 @@
 -- The stretches of a fixed number of steps, 32 steps and then 32 more, with the control bits of the table.
 use mathlib.Core.Path.{_≡_, refl, sym, ap, ap₂, _∙_}
-use mathlib.Core.Bool.{Bool, true, false, _&&_, cond}
+use mathlib.Core.Bool.{Bool, true, false, _&&_, _||_, cond}
 use mathlib.Core.List.{List, _++_, append-nil}
 use mathlib.Core.Logic.{⊎-elim}
 use Prim.Native.Nat.{ℕ, zero, suc, _+_, _-_, _*_, _/_, _%_, _≤_, _<_}
 use native.Mathlib.Omega.{arith}
 use lib.Dec.{eqb, ltb, lit<}
-use lib.ListN.{length, drop-of-length-le}
+use lib.ListN.{length, take, drop, length-drop, drop-of-length-le}
+use lib.Seq.{take-at, take-all, take-length}
 use borrow.Author.Tests.{lt-ltb, le-ltb, eq-eqb, ne-eqb}
 use Rattle.acorn_model.specs.Bits.{Bits, _⊕_, bit, bitsIn}
 use Rattle.acorn_model.specs.Step.{StepInput, run, keystreamBit}
-use Rattle.acorn_model.specs.Stretches.{Stretch, inputs, through, keystream, zeros, start, startBit, final, tagOf, paperTagLength}
+use Rattle.acorn_model.specs.Stretches.{Stretch, inputs, through, keystream, zeros, start, startBit, final, tagOf, tagBytes, fullTagLength}
 use Rattle.calls.specs.Calls.{writtenOver}
 use Rattle.acorn_kernel.specs.Together.{inputsFrom, Together}
-use Rattle.acorn.specs.Runs.{startState, tagOutput}
+use Rattle.acorn.specs.Runs.{startState, tagOutput, tagBytesOutput}
 use Rattle.acorn.specs.Table.{caAt, cbAt, rowOf}
 use Rattle.acorn.specs.declared.stretch.StretchName.the-variants.{Start, Final}
 use Rattle.calls.proofs.Choices.{lt-or-ge}
 use Rattle.acorn_model.proofs.Runs.{run-add}
 use Rattle.acorn_model.proofs.Bytes.{bytes-length, bytes-same}
+use Rattle.acorn_model.proofs.Outputs.{tagOf-length, tagBytes-drop, tagBytes-length}
 use Rattle.acorn_kernel.proofs.WordBits.{bit-above, bit-zero}
 use Rattle.acorn.proofs.StretchRuns.{state-more, ks-more, Written, written-all}
 use Rattle.acorn.proofs.ControlTable.{in-start, in-final, ca-in, cb-in}
@@ -120,22 +122,63 @@ module _ (S T T' : Bits) (step n z : ℕ) (ca cb : Bool) (h : 1050880 ≤ step) 
   final-ks = ks-more final S T T' n 32 0 z (omega arith) false ca cb reached same steps
 
 -- the last 16 bytes of the ks of final
-pub tag-all : (S T : Bits) (out₀ out : List ℕ) → T ≡ run (inputs final) 640 S → paperTagLength ≤ length out₀ → Written (keystream final T) out₀ 16 out → out ≡ tagOutput S out₀
+pub tag-all : (S T : Bits) (out₀ out : List ℕ) → T ≡ run (inputs final) 640 S → fullTagLength ≤ length out₀ → Written (keystream final T) out₀ 16 out → out ≡ tagOutput S out₀
 unfolding tagOutput tagOf keystream
 tag-all S T out₀ out e h w =
     written-all (keystream final T) 16 out₀ out w
     ∙ ap (λ (t : List ℕ). writtenOver t out₀)
     (bytes-same 16 (keystream final T) (λ j. keystream final S (640 + j)) (λ j l. ap keystreamBit (ap (run (inputs final) j) e ∙ sym (run-add (inputs final) 640 j S))))
-    ∙ ap (λ (t : Bool). cond t out₀ (writtenOver (tagOf S) out₀)) (sym (le-ltb (length out₀) paperTagLength h))
+    ∙ ap (λ (t : Bool). cond t out₀ (writtenOver (tagOf S) out₀)) (sym (le-ltb (length out₀) fullTagLength h))
 
-pub tag-refused : (S : Bits) (out : List ℕ) → length out < paperTagLength → out ≡ tagOutput S out
+pub tag-refused : (S : Bits) (out : List ℕ) → length out < fullTagLength → out ≡ tagOutput S out
 unfolding tagOutput
-tag-refused S out h = ap (λ (t : Bool). cond t out (writtenOver (tagOf S) out)) (sym (lt-ltb (length out) paperTagLength h))
+tag-refused S out h = ap (λ (t : Bool). cond t out (writtenOver (tagOf S) out)) (sym (lt-ltb (length out) fullTagLength h))
 
 -- an output of the tag's own length
-pub tag-exact : (S : Bits) (out : List ℕ) → length out ≡ paperTagLength → tagOutput S out ≡ tagOf S
+pub tag-exact : (S : Bits) (out : List ℕ) → length out ≡ fullTagLength → tagOutput S out ≡ tagOf S
 unfolding tagOutput writtenOver tagOf
 tag-exact S out e =
-    let h : length out ≤ length (tagOf S) = omega (arith, bytes-length paperTagLength (λ j. keystream final S (640 + j))) in
-    ap (λ (t : Bool). cond t out (writtenOver (tagOf S) out)) (le-ltb (length out) paperTagLength (omega arith))
+    let h : length out ≤ length (tagOf S) = omega (arith, bytes-length fullTagLength (λ j. keystream final S (640 + j))) in
+    ap (λ (t : Bool). cond t out (writtenOver (tagOf S) out)) (le-ltb (length out) fullTagLength (omega arith))
     ∙ ap (λ (r : List ℕ). tagOf S ++ r) (drop-of-length-le out h) ∙ append-nil (tagOf S)
+
+-- ## A tag of n bytes
+
+module _ (S : Bits) (n : ℕ) (out : List ℕ) where
+  pub tag-bytes-over : fullTagLength < n → out ≡ tagBytesOutput n S out
+  unfolding tagBytesOutput
+  tag-bytes-over h = ap (λ (t : Bool). cond (t || ltb (length out) n) out (writtenOver (tagBytes n S) out)) (sym (lt-ltb fullTagLength n h))
+
+  pub tag-bytes-short : n ≤ fullTagLength → length out < n → out ≡ tagBytesOutput n S out
+  unfolding tagBytesOutput
+  tag-bytes-short h l =
+      ap₂ (λ (t u : Bool). cond (t || u) out (writtenOver (tagBytes n S) out)) (sym (le-ltb fullTagLength n h)) (sym (lt-ltb (length out) n l))
+
+  pub tag-written : n ≤ fullTagLength → n ≤ length out → tagBytesOutput n S out ≡ writtenOver (tagBytes n S) out
+  unfolding tagBytesOutput
+  tag-written h l = ap₂ (λ (t u : Bool). cond (t || u) out (writtenOver (tagBytes n S) out)) (le-ltb fullTagLength n h) (le-ltb (length out) n l)
+
+  -- the part of the full tag from the place of the first of its last n bytes on
+  pub tag-part : (first : ℕ) (full : List ℕ) → full ≡ tagOf S → first ≡ fullTagLength - n → take (fullTagLength - first) (drop first full) ≡ tagBytes n S
+  tag-part first full full-is first-is =
+      ap₂ (λ (k : ℕ) (t : List ℕ). take (fullTagLength - k) (drop k t)) first-is full-is
+      ∙ take-all (fullTagLength - (fullTagLength - n)) (drop (fullTagLength - n) (tagOf S)) (omega (arith, length-drop (fullTagLength - n) (tagOf S), tagOf-length S))
+      ∙ sym (tagBytes-drop n S)
+
+  -- and its copy
+  pub tag-bytes-copied : n ≤ fullTagLength → n ≤ length out → (part after : List ℕ) → part ≡ tagBytes n S
+      → after ≡ take (length part) part ++ drop (length part) out → after ≡ tagBytesOutput n S out
+  unfolding writtenOver
+  tag-bytes-copied h l part after part-is after-is =
+      after-is ∙ ap (λ (t : List ℕ). t ++ drop (length part) out) (take-length part) ∙ ap (λ (t : List ℕ). writtenOver t out) part-is
+      ∙ sym (tag-written h l)
+
+  -- at the start of an output that has room for them, and for a number that is cut to what the full tag has
+  pub tag-front : n ≤ fullTagLength → n ≤ length out → (after : List ℕ) → after ≡ tagBytesOutput n S out → take n after ≡ tagBytes n S
+  unfolding writtenOver
+  tag-front h l after e = ap (take n) (e ∙ tag-written h l) ∙ take-at (tagBytes n S) _ n (tagBytes-length n h S)
+
+  pub tag-cut : (k : ℕ) → k ≡ fullTagLength - (fullTagLength - n) → tagBytes k S ≡ tagBytes n S
+  tag-cut k e =
+      let same : fullTagLength - k ≡ fullTagLength - n = omega arith in
+      tagBytes-drop k S ∙ ap (λ (j : ℕ). drop j (tagOf S)) same ∙ sym (tagBytes-drop n S)

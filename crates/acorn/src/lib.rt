@@ -1,6 +1,7 @@
 // ACORN-128 v3 on words: the runs over data, text and the fixed stretches.
-mod bytes;
 pub mod stretch;
+mod tag_bytes;
+mod word_bytes;
 
 pub use acorn_kernel::State;
 use acorn_kernel::together_rest;
@@ -9,10 +10,6 @@ pub use acorn_kernel::zeros;
 use acorn_model::KEY_LENGTH;
 use acorn_model::NONCE_LENGTH;
 use acorn_model::START_STEPS;
-use bytes::load_rest;
-use bytes::load_word;
-use bytes::store_rest;
-use bytes::store_word;
 use stretch::DATA;
 use stretch::DATA_END;
 use stretch::FINAL;
@@ -23,13 +20,20 @@ use stretch::cb_at;
 use stretch::controls_at;
 use stretch::key_again;
 use stretch::leading_one;
+pub use tag_bytes::is_tag_bytes;
+pub use tag_bytes::tag_length_right;
+pub use tag_bytes::write_tag_bytes;
+use word_bytes::load_rest;
+use word_bytes::load_word;
+use word_bytes::store_rest;
+use word_bytes::store_word;
 ghost use mathlib.Core.Path.{_≡_};
 ghost use mathlib.Core.Bool.{false, true};
-ghost use Rattle.acorn_model.specs.Stretches.{through, dataPiece, dataEnd, textPiece, textEnd, tagOf};
+ghost use Rattle.acorn_model.specs.Stretches.{through, dataPiece, dataEnd, textPiece, textEnd};
 ghost use Rattle.acorn_kernel.specs.Together.{stateOf};
 ghost use Rattle.acorn.specs.Runs.{TextRun, startState, tagOutput};
 
-// The bytes of the paper's tag.
+// The bytes of a full tag.
 const TAG_BYTES: usize = 16;
 
 // Each run over a piece goes 32 steps at a time while as many are left, and then takes the rest at once. All steps of data have the control
@@ -264,8 +268,8 @@ pub fn end_text(s: State) -> State
     t
 }
 
-// Final, of the state before it: the tag is written to out, where out has room for it; else nothing is done.
-pub fn write_tag(s: State, out: &mut [u8])
+// Final, of the state before it: the full tag is written to out, where out has room for it; else nothing is done.
+fn write_tag(s: State, out: &mut [u8])
     ensures { λ _. ⌜ now (out .exit) ≡ tagOutput (stateOf s) (now (out .entry)) ⌝ }
 {
     if out.len() < TAG_BYTES {
@@ -295,13 +299,4 @@ pub fn write_tag(s: State, out: &mut [u8])
         n += 32;
         i += 4;
     }
-}
-
-// The tag, of the state before final.
-pub fn tag(s: State) -> [u8; 16]
-    ensures { λ r. ⌜ r ≡ tagOf (stateOf s) ⌝ }
-{
-    let mut out = [0; 16];
-    write_tag(s, &mut out);
-    out
 }

@@ -1,6 +1,6 @@
 // The six stretches: their control bits, which follow from the stretch that a step lies in; and the message bits of those whose number of steps
 // is fixed.
-use super::bytes::load_word;
+use super::word_bytes::load_word;
 ghost use mathlib.Core.Path.{_≡_};
 ghost use mathlib.Core.List.{List};
 ghost use Prim.Native.Nat.{ℕ, _+_, _≤_, _<_, _%_};

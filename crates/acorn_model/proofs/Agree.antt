@@ -11,10 +11,11 @@ use lib.ListN.{length}
 use borrow.Author.Tests.{lt-ltb, le-ltb, eq-eqb, ne-eqb}
 use Rattle.acorn_model.specs.Bits.{Bits, _⊕_, bitsIn, bytes}
 use Rattle.acorn_model.specs.Step.{StepInput, run, keystreamBit}
-use Rattle.acorn_model.specs.Stretches.{Stretch, paperTagLength, tagBits, startBit, start, dataPiece, textPiece, final, inputs, through, keystream, textOut, tagOf, zeros, afterData, beforeFinal}
-use Rattle.acorn_model.specs.Paper.{_from_to_, Schedule, inputAt, stateAt, ksAt, textBitOut, tagBit, ciphertext, tag, decrypted, newTag}
+use Rattle.acorn_model.specs.Stretches.{Stretch, fullTagLength, startBit, start, dataPiece, textPiece, final, inputs, through, keystream, textOut, tagBytes, zeros, afterData, beforeFinal}
+use Rattle.acorn_model.specs.Paper.{_from_to_, Schedule, inputAt, stateAt, ksAt, textBitOut, tagBit, ciphertext, tagOfLength, decrypted, newTagOfLength}
 use Rattle.calls.proofs.Choices.{lt-or-ge, if-below, if-past}
 use Rattle.acorn_model.proofs.Bytes.{bytes-same}
+use Rattle.acorn_model.proofs.Outputs.{tagBytes-last}
 use Rattle.acorn_model.proofs.Runs.{input-same, run-none, run-on}
 use Rattle.acorn_model.proofs.Scheduled.{scheduled}
 
@@ -145,12 +146,14 @@ module _ (opening : Bool) (key nonce «data» text : List ℕ) (g : ℕ → Step
       bytes-same (length text) _ _
       (λ j l. ap (λ (S : Bits). bitsIn text j ⊕ keystreamBit S) (sym (in-text j (omega arith))))
 
-  pub tag-of-run : tagOf (beforeFinal opening text D) ≡ bytes paperTagLength (λ j. keystreamBit (run g (1792 + (A + P + 1279 - tagBits + 1 + j)) zeros))
-  unfolding tagOf keystream
-  tag-of-run =
-      bytes-same paperTagLength _ _
-      (λ j l. let e : 1792 + (A + P + 512 + (768 - tagBits + j)) ≡ 1792 + (A + P + 1279 - tagBits + 1 + j) = omega arith in
-      ap keystreamBit (sym (in-final (768 - tagBits + j) (omega arith)) ∙ ap (λ (x : ℕ). run g x zeros) e))
+  pub tag-of-run : (n : ℕ) → n ≤ fullTagLength
+      → tagBytes n (beforeFinal opening text D) ≡ bytes n (λ j. keystreamBit (run g (1792 + (A + P + 1279 - 8 * n + 1 + j)) zeros))
+  unfolding keystream
+  tag-of-run n h =
+      tagBytes-last n h (beforeFinal opening text D)
+      ∙ bytes-same n _ _
+      (λ j l. let e : 1792 + (A + P + 512 + (768 - 8 * n + j)) ≡ 1792 + (A + P + 1279 - 8 * n + 1 + j) = omega arith in
+      ap keystreamBit (sym (in-final (768 - 8 * n + j) (omega arith)) ∙ ap (λ (x : ℕ). run g x zeros) e))
 
 -- ## The paper's functions
 
@@ -165,7 +168,8 @@ module _ (key nonce «data» : List ℕ) where
     unfolding textBitOut ksAt stateAt
     textBits-agree = text-of-run opening key nonce «data» text (inputAt opening key nonce «data» text) (λ ks j. (opening && ks) ⊕ bitsIn text j) (λ ks j l. refl) follows
 
-    tagBits-agree : tagOf (beforeFinal opening text (afterData key nonce «data»)) ≡ bytes paperTagLength (tagBit opening key nonce «data» text)
+    tagBits-agree : (n : ℕ) → n ≤ fullTagLength
+        → tagBytes n (beforeFinal opening text (afterData key nonce «data»)) ≡ bytes n (tagBit opening key nonce «data» text (8 * n))
     unfolding tagBit ksAt stateAt
     tagBits-agree = tag-of-run opening key nonce «data» text (inputAt opening key nonce «data» text) (λ ks j. (opening && ks) ⊕ bitsIn text j) (λ ks j l. refl) follows
 
@@ -177,10 +181,11 @@ module _ (key nonce «data» : List ℕ) where
   unfolding decrypted
   decrypted-agrees = textBits-agree true
 
-  pub tag-agrees : (text : List ℕ) → tagOf (beforeFinal false text (afterData key nonce «data»)) ≡ tag key nonce «data» text
-  unfolding tag
-  tag-agrees = tagBits-agree false
+  module _ (n : ℕ) (h : n ≤ fullTagLength) where
+    pub tag-agrees : (text : List ℕ) → tagBytes n (beforeFinal false text (afterData key nonce «data»)) ≡ tagOfLength n key nonce «data» text
+    unfolding tagOfLength
+    tag-agrees text = tagBits-agree false text n h
 
-  pub newTag-agrees : (cipher : List ℕ) → tagOf (beforeFinal true cipher (afterData key nonce «data»)) ≡ newTag key nonce «data» cipher
-  unfolding newTag
-  newTag-agrees = tagBits-agree true
+    pub newTag-agrees : (cipher : List ℕ) → tagBytes n (beforeFinal true cipher (afterData key nonce «data»)) ≡ newTagOfLength n key nonce «data» cipher
+    unfolding newTagOfLength
+    newTag-agrees cipher = tagBits-agree true cipher n h

@@ -5,8 +5,8 @@ use mathlib.Core.Logic.{⊎-elim}
 use Prim.Native.Nat.{ℕ, zero, suc, _+_, _-_, _*_, _/_, _%_, _≤_, _<_}
 use native.Mathlib.Nat.{mod-eq-of-lt}
 use native.Mathlib.Omega.{arith}
-use lib.ListN.{length, getD, List·getD-append}
-use lib.Seq.{getD-append-add}
+use lib.ListN.{length, drop, getD, List·getD-append}
+use lib.Seq.{drop-at, getD-append-add}
 use Rattle.acorn_model.specs.Bits.{Bits, bit, bitsIn, number, bytes}
 use Rattle.calls.specs.Calls.{AreBytes}
 use Rattle.acorn_model.specs.Laws.{BitOrder}
@@ -59,6 +59,10 @@ bytes-add (suc m) n b =
     ap (λ (k : ℕ). bytes k b) e
     ∙ ap (λ (t : List ℕ). number 8 b ∷ t)
     (bytes-add m n (λ i. b (8 + i)) ∙ ap (λ (t : List ℕ). bytes m (λ i. b (8 + i)) ++ t) (bytes-same n _ _ (λ j l. ap b (omega arith))))
+
+-- the last n of m + n bytes
+pub bytes-last : (m n : ℕ) (b : Bits) → drop m (bytes (m + n) b) ≡ bytes n (λ i. b (8 * m + i))
+bytes-last m n b = ap (drop m) (bytes-add m n b) ∙ drop-at (bytes m b) _ m (bytes-length m b)
 
 pub bytes-are-bytes : (n : ℕ) (b : Bits) → AreBytes (bytes n b)
 unfolding bytes

@@ -10,8 +10,8 @@ use lib.ListN.{length}
 use Rattle.acorn_model.specs.Bits.{Bits, _⊕_, bitsIn, bytes}
 use Rattle.calls.specs.Calls.{AreBytes}
 use Rattle.acorn_model.specs.Step.{step, run, keystreamBit}
-use Rattle.acorn_model.specs.Stretches.{textPiece, textEnd, inputs, through, keystream, textOut, tagOf, afterData}
-use Rattle.acorn_model.specs.Paper.{ciphertext, tag, decrypted, newTag, Opens}
+use Rattle.acorn_model.specs.Stretches.{textPiece, textEnd, fullTagLength, inputs, through, keystream, textOut, tagBytes, afterData}
+use Rattle.acorn_model.specs.Paper.{ciphertext, tagOfLength, decrypted, newTagOfLength, Opens}
 use Rattle.acorn_model.proofs.Bytes.{bytes-same, bits-of-bytes, bytes-of-bits}
 use Rattle.acorn_model.proofs.Runs.{run-same-at}
 use Rattle.acorn_model.proofs.Outputs.{textOut-length, ciphertext-are-bytes}
@@ -82,11 +82,6 @@ module _ (key nonce «data» : List ℕ) where
   ciphertext-decrypted cipher h =
       rw (← ciphertext-agrees key nonce «data» (decrypted key nonce «data» cipher), ← decrypted-agrees key nonce «data» cipher) (textOut-inverse true cipher (afterData key nonce «data») h)
 
-  pub newTag-ciphertext : (text : List ℕ) → newTag key nonce «data» (ciphertext key nonce «data» text) ≡ tag key nonce «data» text
-  newTag-ciphertext text =
-      rw (← newTag-agrees key nonce «data» (ciphertext key nonce «data» text), ← ciphertext-agrees key nonce «data» text, ← tag-agrees key nonce «data» text)
-      (ap (λ (S : Bits). tagOf (through textEnd S)) (through-inverse false text (afterData key nonce «data»)))
-
   -- whatever the numbers of a ciphertext, it has the bits of what its text is encrypted to
   pub ciphertext-bits : (cipher : List ℕ) (j : ℕ) → j < 8 * length cipher → bitsIn (ciphertext key nonce «data» (decrypted key nonce «data» cipher)) j ≡ bitsIn cipher j
   ciphertext-bits cipher j h =
@@ -94,11 +89,6 @@ module _ (key nonce «data» : List ℕ) where
       let e = textOut-length true cipher S in
       rw (← ciphertext-agrees key nonce «data» (decrypted key nonce «data» cipher), ← decrypted-agrees key nonce «data» cipher)
       (textOut-bits false (textOut true cipher S) S j (omega arith) ∙ bit-back true S cipher (textOut true cipher S) e (textOut-bits true cipher S) j h)
-
-  pub tag-decrypted : (cipher : List ℕ) → tag key nonce «data» (decrypted key nonce «data» cipher) ≡ newTag key nonce «data» cipher
-  tag-decrypted cipher =
-      rw (← tag-agrees key nonce «data» (decrypted key nonce «data» cipher), ← decrypted-agrees key nonce «data» cipher, ← newTag-agrees key nonce «data» cipher)
-      (ap (λ (S : Bits). tagOf (through textEnd S)) (through-inverse true cipher (afterData key nonce «data»)))
 
   -- a ciphertext with the bits of what a text of bytes is encrypted to, whatever its numbers, is decrypted to that text, with its tag
   module _ (text cipher : List ℕ) (same-length : length cipher ≡ length text)
@@ -109,29 +99,43 @@ module _ (key nonce «data» : List ℕ) where
     pub decrypted-from-bits : AreBytes text → decrypted key nonce «data» cipher ≡ text
     decrypted-from-bits h = sym (decrypted-agrees key nonce «data» cipher) ∙ textOut-back false (afterData key nonce «data») text cipher same-length with-keystream h
 
-    pub newTag-from-bits : newTag key nonce «data» cipher ≡ tag key nonce «data» text
-    newTag-from-bits =
-        sym (newTag-agrees key nonce «data» cipher)
-        ∙ ap (λ (S : Bits). tagOf (through textEnd S)) (through-back false (afterData key nonce «data») text cipher same-length with-keystream)
-        ∙ tag-agrees key nonce «data» text
+    pub newTag-from-bits : (n : ℕ) → n ≤ fullTagLength → newTagOfLength n key nonce «data» cipher ≡ tagOfLength n key nonce «data» text
+    newTag-from-bits n h =
+        sym (newTag-agrees key nonce «data» n h cipher)
+        ∙ ap (λ (S : Bits). tagBytes n (through textEnd S)) (through-back false (afterData key nonce «data») text cipher same-length with-keystream)
+        ∙ tag-agrees key nonce «data» n h text
 
-  pub opens-exactly : (cipher t text : List ℕ) → AreBytes cipher → AreBytes text
-      → Opens key nonce «data» cipher t text ↔ ((cipher ≡ ciphertext key nonce «data» text) × (t ≡ tag key nonce «data» text))
-  opens-exactly cipher t text hc ht = (forth, back)
-    where
-      forth : Opens key nonce «data» cipher t text → (cipher ≡ ciphertext key nonce «data» text) × (t ≡ tag key nonce «data» text)
-      forth o =
-          let c : cipher ≡ ciphertext key nonce «data» text = sym (ciphertext-decrypted cipher hc) ∙ ap (ciphertext key nonce «data») (o .gives) in
-          (c, sym (o .verifies) ∙ ap (newTag key nonce «data») c ∙ newTag-ciphertext text)
+  -- ## A tag of n bytes
 
-      back : (cipher ≡ ciphertext key nonce «data» text) × (t ≡ tag key nonce «data» text) → Opens key nonce «data» cipher t text
-      back e =
-          record {
-            verifies = ap (newTag key nonce «data») (e .0) ∙ newTag-ciphertext text ∙ sym (e .1);
-            gives = ap (decrypted key nonce «data») (e .0) ∙ decrypted-ciphertext text ht;
-          }
+  module _ (n : ℕ) (h : n ≤ fullTagLength) where
+    pub newTag-ciphertext : (text : List ℕ) → newTagOfLength n key nonce «data» (ciphertext key nonce «data» text) ≡ tagOfLength n key nonce «data» text
+    newTag-ciphertext text =
+        rw (← newTag-agrees key nonce «data» n h (ciphertext key nonce «data» text), ← ciphertext-agrees key nonce «data» text, ← tag-agrees key nonce «data» n h text)
+        (ap (λ (S : Bits). tagBytes n (through textEnd S)) (through-inverse false text (afterData key nonce «data»)))
 
-  pub opens-with-tag : (text t : List ℕ) → AreBytes text → Opens key nonce «data» (ciphertext key nonce «data» text) t text ↔ (t ≡ tag key nonce «data» text)
-  opens-with-tag text t h =
-      let e = opens-exactly (ciphertext key nonce «data» text) t text (ciphertext-are-bytes key nonce «data» text) h in
-      (λ o. e .0 o .1, λ p. e .1 (refl, p))
+    pub tag-decrypted : (cipher : List ℕ) → tagOfLength n key nonce «data» (decrypted key nonce «data» cipher) ≡ newTagOfLength n key nonce «data» cipher
+    tag-decrypted cipher =
+        rw (← tag-agrees key nonce «data» n h (decrypted key nonce «data» cipher), ← decrypted-agrees key nonce «data» cipher, ← newTag-agrees key nonce «data» n h cipher)
+        (ap (λ (S : Bits). tagBytes n (through textEnd S)) (through-inverse true cipher (afterData key nonce «data»)))
+
+    pub opens-exactly : (cipher t text : List ℕ) → AreBytes cipher → AreBytes text
+        → Opens n key nonce «data» cipher t text ↔ ((cipher ≡ ciphertext key nonce «data» text) × (t ≡ tagOfLength n key nonce «data» text))
+    opens-exactly cipher t text hc ht = (forth, back)
+      where
+        forth : Opens n key nonce «data» cipher t text → (cipher ≡ ciphertext key nonce «data» text) × (t ≡ tagOfLength n key nonce «data» text)
+        forth o =
+            let c : cipher ≡ ciphertext key nonce «data» text = sym (ciphertext-decrypted cipher hc) ∙ ap (ciphertext key nonce «data») (o .gives) in
+            (c, sym (o .verifies) ∙ ap (newTagOfLength n key nonce «data») c ∙ newTag-ciphertext text)
+
+        back : (cipher ≡ ciphertext key nonce «data» text) × (t ≡ tagOfLength n key nonce «data» text) → Opens n key nonce «data» cipher t text
+        back e =
+            record {
+              verifies = ap (newTagOfLength n key nonce «data») (e .0) ∙ newTag-ciphertext text ∙ sym (e .1);
+              gives = ap (decrypted key nonce «data») (e .0) ∙ decrypted-ciphertext text ht;
+            }
+
+    pub opens-with-tag : (text t : List ℕ) → AreBytes text
+        → Opens n key nonce «data» (ciphertext key nonce «data» text) t text ↔ (t ≡ tagOfLength n key nonce «data» text)
+    opens-with-tag text t ht =
+        let e = opens-exactly (ciphertext key nonce «data» text) t text (ciphertext-are-bytes key nonce «data» text) ht in
+        (λ o. e .0 o .1, λ p. e .1 (refl, p))

@@ -130,6 +130,7 @@ module _ (m : Machine) (a b : List ℕ) where
       λ i. record {
         kind = m .kind;
         phase = m .phase;
+        tagLength = m .tagLength;
         state = S i;
         counts = record { dataBytes = counted (m .counts .dataBytes) i; textBytes = m .counts .textBytes; steps = stepped (m .counts .steps) i };
       }
@@ -144,6 +145,7 @@ module _ (m : Machine) (a b : List ℕ) where
       λ i. record {
         kind = e .kind;
         phase = Text;
+        tagLength = e .tagLength;
         state = S i;
         counts = record { dataBytes = e .counts .dataBytes; textBytes = counted (e .counts .textBytes) i; steps = stepped (e .counts .steps) i };
       }

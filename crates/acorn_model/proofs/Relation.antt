@@ -8,8 +8,8 @@ use native.Mathlib.Omega.{arith}
 use lib.ListN.{length}
 use Rattle.acorn_model.specs.Bits.{Bits, _⊕_, bitsIn, bytes}
 use Rattle.acorn_model.specs.Step.{lfsrUpdate, fbk128, keystreamBit, feedbackBit, step, StepInput, run}
-use Rattle.acorn_model.specs.Stretches.{paperTagLength, tagBits, zeros}
-use Rattle.acorn_model.specs.Paper.{mAt, caAt, cbAt, inputAt, stateAt, ksAt, textBitOut, tagBit, ciphertext, tag, decrypted, newTag}
+use Rattle.acorn_model.specs.Stretches.{fullTagLength, zeros}
+use Rattle.acorn_model.specs.Paper.{mAt, caAt, cbAt, inputAt, stateAt, ksAt, textBitOut, tagBit, ciphertext, tagOfLength, decrypted, newTagOfLength}
 use Rattle.acorn_model.specs.Laws.{SameState, ByPaper}
 use Rattle.acorn_model.proofs.Bytes.{bytes-length, bytes-same, bits-of-bytes, bytes-are-bytes}
 use Rattle.acorn_model.proofs.Runs.{run-none, run-next}
@@ -19,14 +19,14 @@ use Rattle.acorn_model.proofs.Agree.{text-of-run, tag-of-run, ciphertex
 use Rattle.acorn_model.proofs.Outputs.{decrypted-length}
 use Rattle.acorn_model.proofs.Inverse.{ciphertext-bits, tag-decrypted, decrypted-from-bits, newTag-from-bits}
 
-module _ (key nonce «data» : List ℕ) where
+module _ (tagLength : ℕ) (fits : tagLength ≤ fullTagLength) (key nonce «data» : List ℕ) where
   abbrev A : ℕ
   A = 8 * length «data»
 
   -- ## What the relation allows
 
   -- p is any way to give the text's bits
-  module _ (text : List ℕ) (p c T : Bits) (p-is : (j : ℕ) → j < 8 * length text → p j ≡ bitsIn text j) (e : ByPaper key nonce «data» (length text) p c T) where
+  module _ (text : List ℕ) (p c T : Bits) (p-is : (j : ℕ) → j < 8 * length text → p j ≡ bitsIn text j) (e : ByPaper tagLength key nonce «data» (length text) p c T) where
     abbrev P : ℕ
     P = 8 * length text
 
@@ -58,21 +58,21 @@ module _ (key nonce «data» : List ℕ) where
         bytes-same (length text) _ _ (λ j l. e .c-is j l ∙ ap₂ _⊕_ (p-is j l) (keystream-bits (1792 + (A + 256 + j)) (omega arith)))
         ∙ sym (text-of-run false key nonce «data» text g (λ ks. p) (λ ks. p-is) (λ ks. e .schedule)) ∙ ciphertext-agrees key nonce «data» text
 
-    only-tag : bytes paperTagLength T ≡ tag key nonce «data» text
+    only-tag : bytes tagLength T ≡ tagOfLength tagLength key nonce «data» text
     only-tag =
-        bytes-same paperTagLength _ _ (λ j l. e .T-is j l ∙ keystream-bits (1792 + (A + P + 1279 - tagBits + 1 + j)) (omega arith))
-        ∙ sym (tag-of-run false key nonce «data» text g (λ ks. p) (λ ks. p-is) (λ ks. e .schedule)) ∙ tag-agrees key nonce «data» text
+        bytes-same tagLength _ _ (λ j l. e .T-is j l ∙ keystream-bits (1792 + (A + P + 1279 - 8 * tagLength + 1 + j)) (omega arith))
+        ∙ sym (tag-of-run false key nonce «data» text g (λ ks. p) (λ ks. p-is) (λ ks. e .schedule) tagLength fits) ∙ tag-agrees key nonce «data» tagLength fits text
 
-  pub sealing-only : (text : List ℕ) (c T : Bits) → ByPaper key nonce «data» (length text) (bitsIn text) c T
-      → (bytes (length text) c ≡ ciphertext key nonce «data» text) × (bytes paperTagLength T ≡ tag key nonce «data» text)
+  pub sealing-only : (text : List ℕ) (c T : Bits) → ByPaper tagLength key nonce «data» (length text) (bitsIn text) c T
+      → (bytes (length text) c ≡ ciphertext key nonce «data» text) × (bytes tagLength T ≡ tagOfLength tagLength key nonce «data» text)
   sealing-only text c T e = (only-ciphertext text (bitsIn text) c T (λ j l. refl) e, only-tag text (bitsIn text) c T (λ j l. refl) e)
 
   -- the plaintext's bytes are a text
-  pub opening-only : (cipher : List ℕ) (p T : Bits) → ByPaper key nonce «data» (length cipher) p (bitsIn cipher) T
-      → (bytes (length cipher) p ≡ decrypted key nonce «data» cipher) × (bytes paperTagLength T ≡ newTag key nonce «data» cipher)
+  pub opening-only : (cipher : List ℕ) (p T : Bits) → ByPaper tagLength key nonce «data» (length cipher) p (bitsIn cipher) T
+      → (bytes (length cipher) p ≡ decrypted key nonce «data» cipher) × (bytes tagLength T ≡ newTagOfLength tagLength key nonce «data» cipher)
   opening-only cipher p T e = (
     sym (decrypted-from-bits key nonce «data» text cipher (sym same-length) same-bits (bytes-are-bytes (length cipher) p)),
-    only-tag text p (bitsIn cipher) T p-is e' ∙ sym (newTag-from-bits key nonce «data» text cipher (sym same-length) same-bits),
+    only-tag text p (bitsIn cipher) T p-is e' ∙ sym (newTag-from-bits key nonce «data» text cipher (sym same-length) same-bits tagLength fits),
   )
     where
       text : List ℕ
@@ -81,8 +81,8 @@ module _ (key nonce «data» : List ℕ) where
       same-length : length text ≡ length cipher
       same-length = bytes-length (length cipher) p
 
-      e' : ByPaper key nonce «data» (length text) p (bitsIn cipher) T
-      e' = subst (λ (n : ℕ). ByPaper key nonce «data» n p (bitsIn cipher) T) (sym same-length) e
+      e' : ByPaper tagLength key nonce «data» (length text) p (bitsIn cipher) T
+      e' = subst (λ (n : ℕ). ByPaper tagLength key nonce «data» n p (bitsIn cipher) T) (sym same-length) e
 
       p-is : (j : ℕ) → j < 8 * length text → p j ≡ bitsIn text j
       p-is j l = sym (bits-of-bytes (length cipher) p j (omega (arith, same-length)))
@@ -92,8 +92,8 @@ module _ (key nonce «data» : List ℕ) where
 
   -- ## The functions are as it says
 
-  pub sealing-by-paper : (text : List ℕ) → ByPaper key nonce «data» (length text) (bitsIn text) (bitsIn (ciphertext key nonce «data» text)) (bitsIn (tag key nonce «data» text))
-  unfolding ciphertext tag textBitOut tagBit ksAt stateAt keystreamBit feedbackBit
+  pub sealing-by-paper : (text : List ℕ) → ByPaper tagLength key nonce «data» (length text) (bitsIn text) (bitsIn (ciphertext key nonce «data» text)) (bitsIn (tagOfLength tagLength key nonce «data» text))
+  unfolding ciphertext tagOfLength textBitOut tagBit ksAt stateAt keystreamBit feedbackBit
   sealing-by-paper text =
       record {
         m = mAt (bitsIn key) (bitsIn nonce) (bitsIn «data») A (bitsIn text) (8 * length text);
@@ -107,14 +107,14 @@ module _ (key nonce «data» : List ℕ) where
         S-shifts = λ i r j k. ap (λ (R : Bits). R j) (run-next g i zeros) ∙ step-shifts _ _ _ (run g i zeros) j (omega arith) ∙ ap (lfsrUpdate (run g i zeros)) (omega arith);
         S-new = λ i r. ap (λ (R : Bits). R 292) (run-next g i zeros) ∙ step-new _ _ _ (run g i zeros);
         c-is = bits-of-bytes (length text) _;
-        T-is = bits-of-bytes paperTagLength _;
+        T-is = bits-of-bytes tagLength _;
       }
     where
       g : ℕ → StepInput
       g = inputAt false key nonce «data» text
 
   -- the relation reads a ciphertext's bits within its length alone
-  same-cipher : (n : ℕ) (p c c′ T : Bits) → ((j : ℕ) → j < 8 * n → c′ j ≡ c j) → ByPaper key nonce «data» n p c T → ByPaper key nonce «data» n p c′ T
+  same-cipher : (n : ℕ) (p c c′ T : Bits) → ((j : ℕ) → j < 8 * n → c′ j ≡ c j) → ByPaper tagLength key nonce «data» n p c T → ByPaper tagLength key nonce «data» n p c′ T
   same-cipher n p c c′ T same e =
       record {
         m = e .m;
@@ -133,7 +133,7 @@ module _ (key nonce «data» : List ℕ) where
 
   -- by sealing what is decrypted
   pub opening-by-paper : (cipher : List ℕ)
-      → ByPaper key nonce «data» (length cipher) (bitsIn (decrypted key nonce «data» cipher)) (bitsIn cipher) (bitsIn (newTag key nonce «data» cipher))
+      → ByPaper tagLength key nonce «data» (length cipher) (bitsIn (decrypted key nonce «data» cipher)) (bitsIn cipher) (bitsIn (newTagOfLength tagLength key nonce «data» cipher))
   opening-by-paper cipher =
       same-cipher (length cipher) _ _ (bitsIn cipher) _ (λ j l. sym (ciphertext-bits key nonce «data» cipher j l))
-      (rw (tag-decrypted key nonce «data» cipher, decrypted-length key nonce «data» cipher) at (sealing-by-paper (decrypted key nonce «data» cipher)))
+      (rw (tag-decrypted key nonce «data» tagLength fits cipher, decrypted-length key nonce «data» cipher) at (sealing-by-paper (decrypted key nonce «data» cipher)))

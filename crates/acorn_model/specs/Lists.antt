@@ -16,9 +16,10 @@ use Rattle.acorn_model.specs.Machine.{Machine, Call, begin, dataCall, se
 pub record Arguments : Type 0 where
   pub key : List ℕ
   pub nonce : List ℕ
+  pub tagLength : ℕ
 
 unfoldable pub beginOf : Call → List Arguments
-beginOf (begin key nonce) = record { key = key; nonce = nonce } ∷ []
+beginOf (begin key nonce n) = record { key = key; nonce = nonce; tagLength = n } ∷ []
 beginOf (dataCall piece) = []
 beginOf (sealText piece out) = []
 beginOf (checkText piece) = []
@@ -26,7 +27,7 @@ beginOf (sealClose out) = []
 beginOf (checkClose tag) = []
 
 unfoldable pub dataOf : Call → List ℕ
-dataOf (begin key nonce) = []
+dataOf (begin key nonce n) = []
 dataOf (dataCall piece) = piece
 dataOf (sealText piece out) = []
 dataOf (checkText piece) = []
@@ -35,7 +36,7 @@ dataOf (checkClose tag) = []
 
 -- (ciphertext, where it is taken by a checking session)
 unfoldable pub textOf : Call → List ℕ
-textOf (begin key nonce) = []
+textOf (begin key nonce n) = []
 textOf (dataCall piece) = []
 textOf (sealText piece out) = piece
 textOf (checkText piece) = piece
@@ -43,7 +44,7 @@ textOf (sealClose out) = []
 textOf (checkClose tag) = []
 
 unfoldable pub tagsOf : Call → List (List ℕ)
-tagsOf (begin key nonce) = []
+tagsOf (begin key nonce n) = []
 tagsOf (dataCall piece) = []
 tagsOf (sealText piece out) = []
 tagsOf (checkText piece) = []
@@ -59,7 +60,7 @@ ifAcceptedOr7 (done w) l = l
 
 -- good or 7: the answer of a checking close that closed its session
 unfoldable pub verdictOf : Call → Reply Work → List (Reply Work)
-verdictOf (begin key nonce) a = []
+verdictOf (begin key nonce n) a = []
 verdictOf (dataCall piece) a = []
 verdictOf (sealText piece out) a = []
 verdictOf (checkText piece) a = []

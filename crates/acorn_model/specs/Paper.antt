@@ -9,7 +9,7 @@ use lib.ListN.{length}
 use Rattle.acorn_model.specs.Bits.{Bits, _⊕_, bitsIn, bytes}
 use Rattle.calls.specs.Calls.{_if_else_}
 use Rattle.acorn_model.specs.Step.{lfsrUpdate, ksg128, fbk128, StepInput, run, keystreamBit}
-use Rattle.acorn_model.specs.Stretches.{paperTagLength, tagBits, zeros}
+use Rattle.acorn_model.specs.Stretches.{fullTagLength, zeros}
 
 infix 20 _from_to_
 -- i = a to b
@@ -48,8 +48,8 @@ pub record Schedule (K IV ad p : Bits) (adlen pclen : ℕ) (m ca cb : Bits) : Ty
   pub cb-final : (i : ℕ) → i from adlen + pclen + 512 to adlen + pclen + 1279 → cb (1792 + i) ≡ true
 
 -- 1.3.2 to 1.3.6 for one message: there are m, ca, cb, states S and keystream bits ks as the paper says, and by them p is encrypted to c, with
--- the tag T. Decryption (1.3.7) reads it the other way: c and T are given, and p is what is sought.
-pub record Encrypts (K IV ad : Bits) (adlen pclen : ℕ) (p c T : Bits) : Type 0 where
+-- the tag T of t bits. Decryption (1.3.7) reads it the other way: c and T are given, and p is what is sought.
+pub record Encrypts (K IV ad : Bits) (adlen pclen t : ℕ) (p c T : Bits) : Type 0 where
   pub m : Bits
   pub ca : Bits
   pub cb : Bits
@@ -65,7 +65,7 @@ pub record Encrypts (K IV ad : Bits) (adlen pclen : ℕ) (p c T : Bits) : Type 0
   -- 1.3.5: 3
   pub c-is : (i : ℕ) → i < pclen → c i ≡ p i ⊕ ks (1792 + (adlen + 256 + i))
   -- 1.3.6: the last t keystream bits
-  pub T-is : (i : ℕ) → i < tagBits → T i ≡ ks (1792 + (adlen + pclen + 1279 - tagBits + 1 + i))
+  pub T-is : (i : ℕ) → i < t → T i ≡ ks (1792 + (adlen + pclen + 1279 - t + 1 + i))
 
 -- ## The functions
 
@@ -140,26 +140,33 @@ module _ (opening : Bool) (key iv «data» text : List ℕ) where
   textBitOut j = bitsIn text j ⊕ ksAt (1792 + (adlen + 256 + j))
 
   -- T_j = ks_{adlen + pclen + 1279 - t + 1 + j}
-  unfoldable pub tagBit : Bits
-  tagBit j = ksAt (1792 + (adlen + pclen + 1279 - tagBits + 1 + j))
+  unfoldable pub tagBit : ℕ → Bits
+  tagBit t j = ksAt (1792 + (adlen + pclen + 1279 - t + 1 + j))
 
 -- ## Byte strings
 
--- 1.3.5 and 1.3.6
+-- 1.3.5, and 1.3.6 for a tag of n bytes
 unfoldable pub ciphertext : List ℕ → List ℕ → List ℕ → List ℕ → List ℕ
 ciphertext key iv «data» text = bytes (length text) (textBitOut false key iv «data» text)
 
-unfoldable pub tag : List ℕ → List ℕ → List ℕ → List ℕ → List ℕ
-tag key iv «data» text = bytes paperTagLength (tagBit false key iv «data» text)
+unfoldable pub tagOfLength : ℕ → List ℕ → List ℕ → List ℕ → List ℕ → List ℕ
+tagOfLength n key iv «data» text = bytes n (tagBit false key iv «data» text (8 * n))
 
--- 1.3.7: the plaintext, and the newly generated tag, from a ciphertext
+-- 1.3.7: the plaintext, and the newly generated tag of n bytes, from a ciphertext
 unfoldable pub decrypted : List ℕ → List ℕ → List ℕ → List ℕ → List ℕ
 decrypted key iv «data» cipher = bytes (length cipher) (textBitOut true key iv «data» cipher)
 
-unfoldable pub newTag : List ℕ → List ℕ → List ℕ → List ℕ → List ℕ
-newTag key iv «data» cipher = bytes paperTagLength (tagBit true key iv «data» cipher)
+unfoldable pub newTagOfLength : ℕ → List ℕ → List ℕ → List ℕ → List ℕ → List ℕ
+newTagOfLength n key iv «data» cipher = bytes n (tagBit true key iv «data» cipher (8 * n))
 
--- a ciphertext and a tag t are opened to a text: t verifies, and the text is what is decrypted
-pub record Opens (key iv «data» cipher t text : List ℕ) : Type 0 where
-  pub verifies : newTag key iv «data» cipher ≡ t
+-- the full tags
+abbrev pub tag : List ℕ → List ℕ → List ℕ → List ℕ → List ℕ
+tag key iv «data» text = tagOfLength fullTagLength key iv «data» text
+
+abbrev pub newTag : List ℕ → List ℕ → List ℕ → List ℕ → List ℕ
+newTag key iv «data» cipher = newTagOfLength fullTagLength key iv «data» cipher
+
+-- a ciphertext and a tag of n bytes are opened to a text: the tag verifies, and the text is what is decrypted
+pub record Opens (n : ℕ) (key iv «data» cipher given text : List ℕ) : Type 0 where
+  pub verifies : newTagOfLength n key iv «data» cipher ≡ given
   pub gives : decrypted key iv «data» cipher ≡ text

@@ -3,7 +3,7 @@ use mathlib.Core.Bool.{Bool, true, false, _&&_}
 use mathlib.Core.List.{List, [], _∷_, _++_}
 use Prim.Native.Nat.{ℕ, _+_, _-_, _*_, _%_}
 use lib.Dec.{eqb, ltb}
-use lib.ListN.{length}
+use lib.ListN.{length, drop}
 use Rattle.acorn_model.specs.Bits.{Bits, _⊕_, bitsIn, bytes}
 use Rattle.calls.specs.Calls.{_if_else_}
 use Rattle.acorn_model.specs.Step.{StepInput, run, keystreamBit}
@@ -15,12 +15,9 @@ pub record Stretch : Type 0 where
   pub ca : ℕ → Bool
   pub cb : Bool
 
--- the bytes of the paper's tag, and its bits (the paper's t)
-abbrev pub paperTagLength : ℕ
-paperTagLength = 16
-
-abbrev pub tagBits : ℕ
-tagBits = 8 * paperTagLength
+-- the bytes of a full tag; a shorter one is its last bytes
+abbrev pub fullTagLength : ℕ
+fullTagLength = 16
 
 -- ## The rows
 
@@ -68,9 +65,17 @@ keystream stretch S j = keystreamBit (run (inputs stretch) j S)
 unfoldable pub textOut : Bool → List ℕ → Bits → List ℕ
 textOut opening piece S = bytes (length piece) (λ j. bitsIn piece j ⊕ keystream (textPiece opening piece) S j)
 
--- the tag, of the state before final: the last ks bits
+-- the full tag, of the state before final: the last ks bits
 unfoldable pub tagOf : Bits → List ℕ
-tagOf S = bytes paperTagLength (λ j. keystream final S (final .steps - tagBits + j))
+tagOf S = bytes fullTagLength (λ j. keystream final S (final .steps - 8 * fullTagLength + j))
+
+-- the last n bytes of a string
+abbrev pub lastBytes : ℕ → List ℕ → List ℕ
+lastBytes n string = drop (length string - n) string
+
+-- a tag of n bytes (document 02, P4): the last bytes of the sixteen
+abbrev pub tagBytes : ℕ → Bits → List ℕ
+tagBytes n S = lastBytes n (tagOf S)
 
 -- ## A message
 

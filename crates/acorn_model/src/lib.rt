@@ -11,12 +11,14 @@ pub enum Phase {
     Closed,
 }
 
-// Bytes of a key, a nonce and a message's tag; the most bytes of data, and the most of text.
+// Bytes of a key, a nonce and a full tag; the fewest bytes of a tag; the most bytes of data, and the most of text.
 pub const KEY_LENGTH: usize = 16;
 
 pub const NONCE_LENGTH: usize = 16;
 
 pub const TAG_LENGTH: usize = 16;
+
+pub const LEAST_TAG_LENGTH: usize = 8;
 
 pub const BYTE_LIMIT: usize = 65536;
 

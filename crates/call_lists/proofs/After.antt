@@ -26,7 +26,7 @@ call-kept m c log r =
 
 work-kind : (m : Machine) (c : Call) → work m c .next .kind ≡ m .kind
 unfolding work wrote begun dataTaken textTaken textEnded closed enter cleared countData countText runThrough
-work-kind m (begin key nonce) = refl
+work-kind m (begin key nonce n) = refl
 work-kind m (dataCall piece) = refl
 work-kind m (sealText piece out) = ended-kind m
 work-kind m (checkText piece) = ended-kind m

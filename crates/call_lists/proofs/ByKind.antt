@@ -3,15 +3,15 @@
 use mathlib.Core.Path.{_≡_, refl, sym, ap, _∙_}
 use mathlib.Core.Bool.{false}
 use mathlib.Core.List.{List, [], _++_}
-use Prim.Native.Nat.{ℕ}
+use Prim.Native.Nat.{ℕ, _≤_}
 use Rattle.acorn_model.specs.declared.Kind.{Kind}
 use Rattle.acorn_model.specs.declared.Kind.the-variants.{Sealing, Checking}
 use Rattle.acorn_model.specs.Bits.{Bits}
-use Rattle.acorn_model.specs.Stretches.{through, textPiece, textEnd, textOut, tagOf, afterData}
-use Rattle.acorn_model.specs.Paper.{ciphertext, tag, newTag}
+use Rattle.acorn_model.specs.Stretches.{through, textPiece, textEnd, fullTagLength, textOut, tagBytes, afterData}
+use Rattle.acorn_model.specs.Paper.{ciphertext, tagOfLength, newTagOfLength}
 use Rattle.acorn_model.specs.Machine.{isChecking}
 use Rattle.acorn_model.specs.Lists.{Arguments}
-use Rattle.acorn_model.specs.Message.{sealed}
+use Rattle.acorn_model.specs.Message.{sealedWith}
 use Rattle.acorn_model.proofs.Agree.{ciphertext-agrees, tag-agrees, newTag-agrees}
 use Rattle.acorn_model.proofs.Pieces.{textPiece-append, textOut-none, textOut-append}
 
@@ -38,12 +38,12 @@ textWritten Checking a d t = []
 
 -- the tag that is written, or that the given one must be
 abbrev pub rightTag : Kind → Arguments → List ℕ → List ℕ → List ℕ
-rightTag Sealing a d t = tag (a .key) (a .nonce) d t
-rightTag Checking a d t = newTag (a .key) (a .nonce) d t
+rightTag Sealing a d t = tagOfLength (a .tagLength) (a .key) (a .nonce) d t
+rightTag Checking a d t = newTagOfLength (a .tagLength) (a .key) (a .nonce) d t
 
 -- all that is written
 abbrev pub allWritten : Kind → Arguments → List ℕ → List ℕ → List ℕ
-allWritten Sealing a d t = sealed (a .key) (a .nonce) d t
+allWritten Sealing a d t = sealedWith (a .tagLength) (a .key) (a .nonce) d t
 allWritten Checking a d t = []
 
 pub written-none : (kind : Kind) (a : Arguments) (d : List ℕ) → textWritten kind a d [] ≡ []
@@ -58,10 +58,11 @@ written-append Sealing a d t piece =
     ∙ ap (λ (w : List ℕ). w ++ textOut false piece (through (textPiece false t) S)) (ciphertext-agrees (a .key) (a .nonce) d t)
 written-append Checking a d t piece = refl
 
-pub tag-of-state : (kind : Kind) (a : Arguments) (d t : List ℕ) → tagOf (through textEnd (textState kind a d t)) ≡ rightTag kind a d t
-tag-of-state Sealing a d t = tag-agrees (a .key) (a .nonce) d t
-tag-of-state Checking a d t = newTag-agrees (a .key) (a .nonce) d t
+pub tag-of-state : (kind : Kind) (a : Arguments) (d t : List ℕ) → a .tagLength ≤ fullTagLength
+    → tagBytes (a .tagLength) (through textEnd (textState kind a d t)) ≡ rightTag kind a d t
+tag-of-state Sealing a d t h = tag-agrees (a .key) (a .nonce) d (a .tagLength) h t
+tag-of-state Checking a d t h = newTag-agrees (a .key) (a .nonce) d (a .tagLength) h t
 
 pub written-all : (kind : Kind) (a : Arguments) (d t : List ℕ) → allWritten kind a d t ≡ textWritten kind a d t ++ closeOut kind (rightTag kind a d t)
-written-all Sealing a d t = unfold sealed in refl
+written-all Sealing a d t = unfold sealedWith in refl
 written-all Checking a d t = refl

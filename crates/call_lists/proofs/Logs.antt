@@ -8,7 +8,7 @@ use lib.ListN.{length, take}
 use lib.Seq.{take-append-seam}
 use borrow.Author.Tests.{ne-eqb}
 use Rattle.calls.specs.Calls.{_if_else_, Reply, refused, done, Work, writtenOver, sameBytes}
-use Rattle.acorn_model.specs.Stretches.{textOut, tagOf}
+use Rattle.acorn_model.specs.Stretches.{textOut, tagBytes}
 use Rattle.calls.specs.Lists.{Entry}
 use Rattle.acorn_model.specs.Machine.{Machine, Call, begin, dataCall, sealText, checkText, sealClose, checkClose, dataEnded, textEnded, closed, answered, wrote, verdict, work}
 use Rattle.acorn_model.specs.Lists.{beginOf, dataOf, textOf, tagsOf, verdictOf, Log, nothing, logged, joinLogs, logOf}
@@ -41,7 +41,7 @@ if-none false = refl
 -- it adds nothing, unless 7 closed its session
 pub refused-adds : (c : Call) (n : ℕ) (out : List ℕ) → (n ≡ 7 → ⊥) → logged (record { call = c; answer = refused n; out = out }) ≡ nothing
 unfolding logged nothing tagsOf verdictOf
-refused-adds (begin key nonce) n out h = rw (if-none (eqb n 7))
+refused-adds (begin key nonce k) n out h = rw (if-none (eqb n 7))
 refused-adds (dataCall piece) n out h = rw (if-none (eqb n 7))
 refused-adds (sealText piece o) n out h = rw (if-none (eqb n 7))
 refused-adds (checkText piece) n out h = rw (if-none (eqb n 7))
@@ -57,18 +57,18 @@ goodOr7 false steps = refused 7
 
 -- what such a call of the machine m adds
 abbrev pub added : Machine → Call → Log
-added m (begin key nonce) = record { begins = record { key = key; nonce = nonce } ∷ []; «data» = []; text = []; written = []; tags = []; verdicts = [] }
+added m (begin key nonce k) = record { begins = record { key = key; nonce = nonce; tagLength = k } ∷ []; «data» = []; text = []; written = []; tags = []; verdicts = [] }
 added m (dataCall piece) = record { begins = []; «data» = piece; text = []; written = []; tags = []; verdicts = [] }
 added m (sealText piece out) = record { begins = []; «data» = []; text = piece; written = textOut false piece (dataEnded m .state); tags = []; verdicts = [] }
 added m (checkText piece) = record { begins = []; «data» = []; text = piece; written = []; tags = []; verdicts = [] }
-added m (sealClose out) = record { begins = []; «data» = []; text = []; written = tagOf (textEnded m .state); tags = []; verdicts = [] }
+added m (sealClose out) = record { begins = []; «data» = []; text = []; written = tagBytes (m .tagLength) (textEnded m .state); tags = []; verdicts = [] }
 added m (checkClose tag) = record {
   begins = [];
   «data» = [];
   text = [];
   written = [];
   tags = tag ∷ [];
-  verdicts = goodOr7 (sameBytes tag (tagOf (textEnded m .state))) (closed m .counts .steps) ∷ [];
+  verdicts = goodOr7 (sameBytes tag (tagBytes (m .tagLength) (textEnded m .state))) (closed m .counts .steps) ∷ [];
 }
 
 -- the bytes at the start of an output are those that were written
@@ -84,7 +84,7 @@ judged-adds false m tag = refl
 
 pub work-adds : (m : Machine) (c : Call) → logged (record { call = c; answer = work m c .answer; out = work m c .out }) ≡ added m c
 unfolding logged beginOf dataOf textOf tagsOf verdictOf work wrote answered
-work-adds m (begin key nonce) = refl
+work-adds m (begin key nonce k) = refl
 work-adds m (dataCall piece) = refl
 work-adds m (sealText piece out) = rw take-over
 work-adds m (checkText piece) = refl

@@ -81,6 +81,7 @@ module _ (kind : Kind) (a b : Log) (s : Alike kind a b) where
 
 pub machine-lists : MachineLists
 machine-lists = record {
+  fixed = λ kind calls. let r = reached-after kind calls in (r .tagLength, r .tagLeast, r .tagMost);
   taken = λ kind calls. let r = reached-after kind calls in (r .dataBytes, r .dataFits, r .textBytes, r .textFits);
   steps = λ kind calls. reached-after kind calls .steps;
   counted = steps-after;

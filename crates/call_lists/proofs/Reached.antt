@@ -9,11 +9,11 @@ use Rattle.acorn_model.specs.declared.Kind.the-variants.{Sealing, Checking}
 use Rattle.acorn_model.specs.declared.Phase.{Phase}
 use Rattle.acorn_model.specs.declared.Phase.the-variants.{Fresh, Data, Text, Closed}
 use Rattle.acorn_model.specs.Bits.{Bits}
-use Rattle.acorn_model.specs.Stretches.{through, start, dataPiece, zeros}
+use Rattle.acorn_model.specs.Stretches.{fullTagLength, through, start, dataPiece, zeros}
 use Rattle.calls.specs.Calls.{Reply, Work, sameBytes}
-use Rattle.acorn_model.specs.Machine.{Machine, fresh, byteLimit}
+use Rattle.acorn_model.specs.Machine.{Machine, fresh, leastTagLength, byteLimit}
 use Rattle.acorn_model.specs.Lists.{Arguments, Log, nothing}
-use Rattle.call_lists.specs.MachineLists.{phaseSteps, byteSteps, endedSteps}
+use Rattle.call_lists.specs.MachineLists.{fixedLength, phaseSteps, byteSteps, endedSteps}
 use Rattle.call_lists.proofs.Logs.{goodOr7}
 use Rattle.call_lists.proofs.ByKind.{textState, textWritten, rightTag, allWritten}
 
@@ -57,6 +57,9 @@ Means Closed kind S log = InClosed kind log
 -- ## In every phase
 
 pub record Reached (m : Machine) (log : Log) : Type 0 where
+  pub tagLength : m .tagLength ≡ fixedLength (log .begins)
+  pub tagLeast : leastTagLength ≤ m .tagLength
+  pub tagMost : m .tagLength ≤ fullTagLength
   pub dataBytes : m .counts .dataBytes ≡ length (log .«data»)
   pub textBytes : m .counts .textBytes ≡ length (log .text)
   pub dataFits : length (log .«data») ≤ byteLimit
@@ -70,7 +73,7 @@ in-phase m log p e r = subst (λ (x : Phase). Means x (m .kind) (m .state) log) 
 
 pub fresh-reached : (kind : Kind) → Reached (fresh kind) nothing
 unfolding fresh nothing
-fresh-reached kind = record { dataBytes = refl; textBytes = refl; dataFits = omega arith; textFits = omega arith; steps = refl; means = refl }
+fresh-reached kind = record { tagLength = refl; tagLeast = omega arith; tagMost = omega arith; dataBytes = refl; textBytes = refl; dataFits = omega arith; textFits = omega arith; steps = refl; means = refl }
 
 base-most : (p : Phase) → phaseSteps p ≤ 3072
 base-most Fresh = omega arith

@@ -10,25 +10,25 @@ use borrow.Author.Tests.{leb-false, le-ltb}
 use Rattle.acorn_model.specs.declared.Kind.the-variants.{Sealing}
 use Rattle.calls.specs.Calls.{done, Work, writtenOver, Outcome}
 use Rattle.calls.specs.Lists.{handedOn}
-use Rattle.acorn_model.specs.Machine.{Machine, fresh, Call, begin, dataCall, sealText, sealClose, isData, isText, isSealing, keyLength, byteLimit, phaseAllows, sizesRight, overLimit, outputShort, runThrough, enter, cleared, countData, begun, dataTaken, answered, wrote, call, work as machineWork}
+use Rattle.acorn_model.specs.Machine.{Machine, fresh, Call, begin, dataCall, sealText, sealClose, isData, isText, isSealing, keyLength, byteLimit, phaseAllows, fixesRight, sizesRight, overLimit, outputShort, runThrough, enter, cleared, countData, begun, dataTaken, answered, wrote, call, work as machineWork}
 use Rattle.tape_model.specs.declared.Head.{Head}
 use Rattle.tape_model.specs.declared.WriterPhase.{WriterPhase}
 use Rattle.tape_model.specs.declared.WriterPhase.the-variants.{Fresh, Open, Closed}
 use Rattle.tape_model.specs.Ticket.{headLength, packTicket, packHead}
-use Rattle.tape_model.specs.Tape.{ticketLimit, nonceOf}
+use Rattle.tape_model.specs.Tape.{ticketLimit, tapeTagLength, nonceOf}
 use Rattle.tape_model.specs.Writer.{PlainWriter, WriterCall, start, add, finish, isFresh, isOpen, keyRight, tapeFull, onAnswer, passedOn, started, work, phaseAllows as writerAllows, outputShort as writerShort}
 use Rattle.tape_model.specs.WriterLists.{WriterLog}
 use Rattle.acorn_model.proofs.Refusals.{Passed, works}
 use Rattle.tape_model.proofs.Refusals.{WriterPassed}
 use Rattle.tape_model.proofs.Tickets.{head-length, ticket-length}
 use Rattle.tape_model.proofs.Tapes.{nonce-length}
-use Rattle.call_lists.proofs.WriterReached.{writerNothing, Begun, WriterReached, writer-in-phase, machine-seals, tickets-taken}
+use Rattle.call_lists.proofs.WriterReached.{writerNothing, Begun, WriterReached, writer-in-phase, machine-seals, tag-full, tickets-taken}
 
 -- ## Start: begin and data on a fresh machine
 
 module _ (key : List ℕ) (head : Head) where
   abbrev pub beginOf : Call
-  beginOf = begin key (nonceOf (packHead head))
+  beginOf = begin key (nonceOf (packHead head)) tapeTagLength
 
   abbrev pub dataOf : Call
   dataOf = dataCall (packHead head)
@@ -44,12 +44,12 @@ module _ (key : List ℕ) (head : Head) where
   start-steps = rw (head-length head)
 
   begin-passes : eqb (length key) keyLength ≡ true → Passed (fresh Sealing) beginOf
-  unfolding fresh phaseAllows sizesRight overLimit outputShort
-  begin-passes k = record { phase = refl; sizes = rw (k, nonce-length head); limit = refl; output = refl }
+  unfolding fresh phaseAllows fixesRight sizesRight overLimit outputShort
+  begin-passes k = record { phase = refl; fixes = refl; sizes = rw (k, nonce-length head); limit = refl; output = refl }
 
   data-passes : Passed begunMachine dataOf
-  unfolding fresh phaseAllows sizesRight overLimit outputShort machineWork wrote begun enter runThrough cleared
-  data-passes = record { phase = refl; sizes = refl; limit = rw (head-length head); output = refl }
+  unfolding fresh phaseAllows fixesRight sizesRight overLimit outputShort machineWork wrote begun enter runThrough cleared
+  data-passes = record { phase = refl; fixes = refl; sizes = refl; limit = rw (head-length head); output = refl }
 
 -- ## The machine accepts
 
@@ -86,17 +86,19 @@ MachinePassed w (add ticket out) = Passed (w .machine) (sealText (packTicket tic
 MachinePassed w (finish out) = Passed (w .machine) (sealClose out)
 
 pub machine-passed : (w : PlainWriter) (log : WriterLog) (c : WriterCall) → WriterReached w log → WriterPassed w c → MachinePassed w c
-unfolding writerAllows keyRight tapeFull writerShort phaseAllows sizesRight overLimit outputShort
+unfolding writerAllows keyRight tapeFull writerShort phaseAllows fixesRight sizesRight overLimit outputShort
 machine-passed w log (start key head out) r p = (still-fresh w log r (p .phase), begin-passes key head (p .key), data-passes key head)
 machine-passed w log (add ticket out) r p =
     let tickets : w .tickets < ticketLimit = leb-false ticketLimit (w .tickets) (p .full) in
     record {
       phase = seal-allowed w log r (p .phase);
+      fixes = refl;
       sizes = refl;
       limit = le-ltb byteLimit (w .machine .counts .textBytes + length (packTicket ticket)) (omega (arith, tickets-taken w log r (still-open w log r (p .phase) .1), ticket-length ticket));
       output = rw (ticket-length ticket) (p .output);
     }
-machine-passed w log (finish out) r p = record { phase = seal-allowed w log r (p .phase); sizes = refl; limit = refl; output = p .output }
+machine-passed w log (finish out) r p =
+    record { phase = seal-allowed w log r (p .phase); fixes = refl; sizes = refl; limit = refl; output = rw (tag-full w log r (still-open w log r (p .phase) .1)) (p .output) }
 
 -- ## What an accepted call comes to
 

@@ -18,18 +18,18 @@ use Rattle.tape_model.specs.declared.WriterPhase.{WriterPhase}
 use Rattle.tape_model.specs.declared.WriterPhase.the-variants.{Fresh, Open, Closed}
 use Rattle.tape_model.specs.Ticket.{packTicket, packHead}
 use Rattle.tape_model.specs.Tape.{nonceOf, tapeOf}
-use Rattle.tape_model.specs.Writer.{PlainWriter, freshWriter, WriterCall, start, add, finish, refusal, outputOf, work, writerCall}
+use Rattle.tape_model.specs.Writer.{PlainWriter, freshWriter, WriterCall, start, add, finish, phaseAllows, refusal, outputOf, work, writerCall}
 use Rattle.call_lists.specs.MachineLists.{logFrom}
 use Rattle.tape_model.specs.WriterLists.{WriterLog, headsOf}
 use Rattle.call_lists.specs.WriterLists.{writerAfter, writerLogFrom, StartsRight, WriterLists}
-use Rattle.acorn_model.proofs.Outputs.{textOut-length, tagOf-length}
+use Rattle.acorn_model.proofs.Outputs.{textOut-length, tagBytes-length}
 use Rattle.tape_model.proofs.Tickets.{ticket-length, all-writable-valid}
 use Rattle.tape_model.proofs.Tapes.{tapes-come-back}
 use Rattle.calls.proofs.Refusals.{by-number}
-use Rattle.tape_model.proofs.Refusals.{writer-passed}
+use Rattle.tape_model.proofs.Refusals.{WriterPassed, writer-passed}
 use Rattle.call_lists.proofs.MachineLists.{machine-lists}
-use Rattle.call_lists.proofs.WriterReached.{Begun, WriterMeans, WriterReached, writer-in-phase}
-use Rattle.call_lists.proofs.WriterAccepts.{machine-passed, comesTo, accepted-work}
+use Rattle.call_lists.proofs.WriterReached.{Begun, WriterMeans, WriterReached, writer-in-phase, tag-full}
+use Rattle.call_lists.proofs.WriterAccepts.{still-open, machine-passed, comesTo, accepted-work}
 use Rattle.call_lists.proofs.WriterValid.{tickets-right, starts-right}
 use Rattle.call_lists.proofs.WriterKept.{writer-reached}
 
@@ -78,11 +78,19 @@ module _ (w : PlainWriter) (log : WriterLog) (r : WriterReached w log) where
       let long = textOut-length false (packTicket ticket) (dataEnded (w .machine) .state) ∙ ticket-length ticket in
       cc
 
+  accepted-passed : (c : WriterCall) (a : Work) → writerCall w c .answer ≡ done a → WriterPassed w c
+  unfolding writerCall refusedWith
+  accepted-passed c a =
+      by-number (λ (o : Outcome PlainWriter Work). o .answer ≡ done a → WriterPassed w c)
+      (refusal w c) (work w c) (refusedWith (refusal w c) w (outputOf c))
+      (λ n _. writer-passed w c n) (λ _ h. let z : _≡_ {A = ℕ} 0 1 = cc in absurd (omega arith))
+
   finish-answers : (out : List ℕ) (a : Work) → writerCall w (finish out) .answer ≡ done a → a .bytes ≡ 16
-  unfolding machineWork wrote answered
+  unfolding machineWork wrote answered phaseAllows
   finish-answers out a h =
       let e = accepted-answer (finish out) a h in
-      let long = tagOf-length (textEnded (w .machine) .state) in
+      let full = tag-full w log r (still-open w log r (accepted-passed (finish out) a h .phase) .1) in
+      let long = tagBytes-length (w .machine .tagLength) (omega (arith, full)) (textEnded (w .machine) .state) ∙ full in
       cc
 
 -- ## The claims

@@ -15,9 +15,10 @@ use Rattle.acorn_model.specs.Lists.{Log, nothing}
 use Rattle.tape_model.specs.declared.WriterPhase.{WriterPhase}
 use Rattle.tape_model.specs.declared.WriterPhase.the-variants.{Fresh, Open, Closed}
 use Rattle.tape_model.specs.Ticket.{ticketLength, headLength, packHead}
-use Rattle.tape_model.specs.Tape.{ticketLimit, nonceOf, packTickets}
+use Rattle.tape_model.specs.Tape.{ticketLimit, tapeTagLength, nonceOf, packTickets}
 use Rattle.tape_model.specs.Writer.{PlainWriter, freshWriter, WriterCall}
 use Rattle.tape_model.specs.WriterLists.{Started, startOf, ticketsOf, machineCallsOf, WriterLog, writerLog, headsOf}
+use Rattle.call_lists.specs.MachineLists.{fixedLength}
 use Rattle.call_lists.proofs.Reached.{Reached, reached-small}
 use Rattle.call_lists.proofs.Ran.{Ran, ran-fresh, ran-reached, ran-kind}
 use Rattle.tape_model.proofs.Tickets.{head-length}
@@ -58,7 +59,7 @@ writer-log-last (d ∷ es) e = rw (writer-log-last es e) (simp append-assoc)
 pub record Begun (log : WriterLog) (below : Log) : Type 0 where
   pub started : Started
   pub starts : log .starts ≡ (started ∷ [])
-  pub begins : below .begins ≡ (record { key = started .key; nonce = nonceOf (packHead (started .head)) } ∷ [])
+  pub begins : below .begins ≡ (record { key = started .key; nonce = nonceOf (packHead (started .head)); tagLength = tapeTagLength } ∷ [])
   pub «data» : below .«data» ≡ packHead (started .head)
   pub text : below .text ≡ packTickets (log .tickets)
 
@@ -93,8 +94,11 @@ module _ (w : PlainWriter) (log : WriterLog) (r : WriterReached w log) where
   pub writer-small : w .machine .counts .steps < 2 ^ 64
   writer-small = reached-small (w .machine) (r .below) machine-reached
 
-  -- a started writer's machine has taken the head's bytes as data, and each ticket's as text
+  -- a started writer's machine has a full tag, and has taken the head's bytes as data, and each ticket's as text
   module _ (b : Begun log (r .below)) where
+    pub tag-full : w .machine .tagLength ≡ tapeTagLength
+    tag-full = machine-reached .tagLength ∙ ap fixedLength (b .begins)
+
     pub head-taken : w .machine .counts .dataBytes ≡ headLength
     head-taken = machine-reached .dataBytes ∙ ap length (b .«data») ∙ head-length (b .started .head)
 

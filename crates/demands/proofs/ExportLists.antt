@@ -6,11 +6,13 @@ use Prim.Native.Nat.{ℕ}
 use native.Mathlib.Omega.{arith}
 use borrow.Author.Tests.{ne-eqb}
 use Rattle.acorn_model.specs.declared.Kind.{Kind}
+use Rattle.acorn_model.specs.declared.Kind.the-variants.{Sealing}
 use Rattle.calls.specs.Calls.{_if_else_, Reply, refused, done, Work, Outcome, sameBytes, refusedWith, leftUnchanged}
-use Rattle.acorn_model.specs.Stretches.{tagOf}
+use Rattle.acorn_model.specs.Stretches.{tagBytes}
 use Rattle.calls.specs.Lists.{Entry, callsOf, entries, handedOn, CallsMade, none, call as made}
 use Rattle.acorn_model.specs.Machine.{Machine, Call, begin, dataCall, sealText, checkText, sealClose, checkClose, fresh, outputOf, refusal, textEnded, closed, answered, wrote, verdict, work, call}
 use Rattle.calls.proofs.Refusals.{by-number}
+use Rattle.tape_model.specs.Tape.{tapeTagLength}
 use Rattle.tape_model.specs.Writer.{PlainWriter, WriterCall, start, add, finish, freshWriter, onAnswer, passedOn, started, writerCall}
 use Rattle.tape_model.specs.Writer as plain
 use Rattle.call_lists.proofs.WriterRuns as writers
@@ -28,7 +30,7 @@ use Rattle.demands.specs.Exports.{Exported, replyIn, SessionWords, Write
 use Rattle.demands.proofs.Sessions.{HasRun, runs-on, has-run-fresh, run-small}
 use Rattle.demands.proofs.SessionFacts.{session-facts, cuts-agree}
 use Rattle.demands.proofs.Writers.{call-within-writer, writer-facts}
-use Rattle.demands.proofs.Standing.{call-clear, writer-call-clear}
+use Rattle.demands.proofs.Standing.{fresh-clear, writer-call-full, call-clear, writer-call-clear}
 use Rattle.calls.proofs.Made.{calls-made}
 
 -- ## Any kind of words
@@ -96,12 +98,12 @@ judged false m before = record { stays = λ e. absurd (false-true e); left = λ 
 
 worked : (m : Machine) (c : Call) → Passes m (outputOf c) (work m c)
 unfolding work wrote answered
-worked m (begin key nonce) = did m _ _ _ _
+worked m (begin key nonce _) = did m _ _ _ _
 worked m (dataCall piece) = did m _ _ _ _
 worked m (sealText piece out) = did m _ _ _ _
 worked m (checkText piece) = did m _ _ _ _
 worked m (sealClose out) = did m _ _ _ _
-worked m (checkClose tag) = judged (sameBytes tag (tagOf (textEnded m .state))) m _
+worked m (checkClose tag) = judged (sameBytes tag (tagBytes (m .tagLength) (textEnded m .state))) m _
 
 pub called : (m : Machine) (c : Call) → Passes m (outputOf c) (call m c)
 unfolding call
@@ -119,7 +121,7 @@ sessions kind es e p =
     (λ m i. words-stand m (i .1))
     (λ m c i. call-within m c (run-small _ (runs-on m c (i .0))))
     (λ m c i. (runs-on m c (i .0), call-clear m c (i .1)))
-    (λ m c. called m c .stays) (λ m c. called m c .told) (fresh kind) _ e es (has-run-fresh kind, λ q. refl) refl p
+    (λ m c. called m c .stays) (λ m c. called m c .told) (fresh kind) _ e es (has-run-fresh kind, fresh-clear kind) refl p
 
 -- ## Writers
 
@@ -141,17 +143,17 @@ writer-called w c =
     by-number (Passes w (plain.outputOf c)) (plain.refusal w c) (plain.work w c) (refusedWith (plain.refusal w c) w (plain.outputOf c)) (λ e. writer-worked w c) (λ h. unchanged (plain.refusal w c) w (plain.outputOf c) h)
 
 abbrev WriterReached : PlainWriter → Type 0
-WriterReached w = writers.HasRun w × Clear (w .machine)
+WriterReached w = writers.HasRun w × Clear (w .machine) × (w .machine .tagLength ≡ tapeTagLength)
 
 pub of-writers : (es : List (Entry WriterCall Work)) (e : List ℕ) → WriterWords es e
     → (es ≡ entries writerCall freshWriter (callsOf es)) × (e ≡ writerWordsFor (handedOn writerCall freshWriter (callsOf es)))
 unfolding freshWriter fresh
 of-writers es e p =
     as-model writerWordsFor plainWriterIn wrappedWriterOutcome writerCall WriterReached
-    (λ w i. writer-words-stand w (i .1))
+    (λ w i. writer-words-stand w (i .1) (i .2))
     (λ w c i. call-within-writer w c (i .0))
-    (λ w c i. (writers.runs-on w c (i .0), writer-call-clear w c (i .1)))
-    (λ w c. writer-called w c .stays) (λ w c. writer-called w c .told) freshWriter _ e es (writers.fresh-has-run, λ q. refl) refl p
+    (λ w c i. (writers.runs-on w c (i .0), writer-call-clear w c (i .1), writer-call-full w c (i .2)))
+    (λ w c. writer-called w c .stays) (λ w c. writer-called w c .told) freshWriter _ e es (writers.fresh-has-run, fresh-clear Sealing, refl) refl p
 
 -- ## The machine and the plain writer at the end
 
@@ -159,7 +161,7 @@ pub as-machine : (kind : Kind) (es : List (Entry Call Work)) (e : List ℕ) → 
 unfolding fresh handedOn
 as-machine kind es e p =
     let x = sessions kind es e p in
-    (x .0, ap machineIn (x .1) ∙ words-stand _ (reached-clear (callsOf es) (fresh kind) (λ q. refl)))
+    (x .0, ap machineIn (x .1) ∙ words-stand _ (reached-clear (callsOf es) (fresh kind) (fresh-clear kind)))
   where
     reached-clear : (cs : List Call) (m : Machine) → Clear m → Clear (handedOn call m cs)
     reached-clear [] m h = h
@@ -170,11 +172,15 @@ pub as-plain : (es : List (Entry WriterCall Work)) (e : List ℕ) → WriterWord
 unfolding freshWriter fresh handedOn
 as-plain es e p =
     let x = of-writers es e p in
-    (x .0, ap plainWriterIn (x .1) ∙ writer-words-stand _ (reached-clear (callsOf es) freshWriter (λ q. refl)))
+    (x .0, ap plainWriterIn (x .1) ∙ writer-words-stand _ (reached-clear (callsOf es) freshWriter (fresh-clear Sealing)) (reached-full (callsOf es) freshWriter refl))
   where
     reached-clear : (cs : List WriterCall) (w : PlainWriter) → Clear (w .machine) → Clear (handedOn writerCall w cs .machine)
     reached-clear [] w h = h
     reached-clear (c ∷ cs) w h = reached-clear cs (writerCall w c .next) (writer-call-clear w c h)
+
+    reached-full : (cs : List WriterCall) (w : PlainWriter) → w .machine .tagLength ≡ tapeTagLength → handedOn writerCall w cs .machine .tagLength ≡ tapeTagLength
+    reached-full [] w h = h
+    reached-full (c ∷ cs) w h = reached-full cs (writerCall w c .next) (writer-call-full w c h)
 
 -- ## The claims. Every list can be made: the contracts are equations
 

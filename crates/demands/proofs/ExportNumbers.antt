@@ -234,8 +234,8 @@ number-exports =
     record {
       sessions = session-numbers;
       writers = writer-numbers;
-      sealing = λ key nonce d text out after r seen. number-told writtenNumbers (λ h. h .refused) written-tells _ _ r out after seen (result-by _ _ _ out);
-      opening = λ key nonce d s out after r seen. number-told writtenNumbers (λ h. h .refused) written-tells _ _ r out after seen (result-by _ _ _ out);
+      sealing = λ n key nonce d text out after r seen. number-told writtenNumbers (λ h. h .refused) written-tells _ _ r out after seen (result-by _ _ _ out);
+      opening = λ n key nonce d s out after r seen. number-told writtenNumbers (λ h. h .refused) written-tells _ _ r out after seen (result-by _ _ _ out);
       opening-tapes = λ key t out after r seen. number-told openedNumbers (λ h. h .refused) opened-tells _ _ r out after seen (result-by _ _ _ out);
       listing-tapes = λ key t out after r seen. number-told writtenNumbers (λ h. h .refused) written-tells _ _ r out after seen (result-by _ _ _ out);
       packing = λ t out after r seen. number-told writtenNumbers (λ h. h .refused) written-tells _ _ r out after seen (result-by _ _ _ out);

@@ -47,27 +47,27 @@ told-done n (refused k) x h e =
     let d = h .accepts .1 z in cc
 told-done n (done y) x h e = ap done (ap (λ (r : HtWritten). r .bytes) e)
 
-module _ (key nonce «data» : List ℕ) where
-  message-exports : MessageExports key nonce «data»
+module _ (tagLength : ℕ) (key nonce «data» : List ℕ) where
+  message-exports : MessageExports tagLength key nonce «data»
   unfolding writtenNumbers
   message-exports =
       record {
         sealing = λ text out after r seen w room c T p.
-            let x = message-examples key nonce «data» .seals text out in
-            let d = message-demand key nonce «data» .sealing text out (x .1) (x .0) (x .2) w room c T p in
+            let x = message-examples tagLength key nonce «data» .seals text out in
+            let d = message-demand tagLength (w .tag-most) key nonce «data» .sealing text out (x .1) (x .0) (x .2) w room c T p in
             (seen .0 ∙ (λ i. writtenNumbers (x .2 i .answer)) ∙ ap writtenNumbers (d .0), seen .1 ∙ (λ i. x .2 i .out) ∙ d .1);
         opening = λ s text out after r hs ht w room seen c T p.
-            let x = message-examples key nonce «data» .opens s out in
-            let d = message-demand key nonce «data» .opening s text out (x .1) (x .0) hs ht w room (x .2) c T p in
-            let number = refusal-demand .opening key nonce «data» s out (x .1) (x .0) (x .2) .number in
+            let x = message-examples tagLength key nonce «data» .opens s out in
+            let d = message-demand tagLength (w .tag-most) key nonce «data» .opening s text out (x .1) (x .0) hs ht w room (x .2) c T p in
+            let number = refusal-demand .opening tagLength key nonce «data» s out (x .1) (x .0) (x .2) .number in
             let told : r ≡ writtenNumbers (writtenReply (x .0)) = seen .0 ∙ (λ i. writtenNumbers (x .2 i .answer)) in
             let left : after ≡ x .1 = seen .1 ∙ (λ i. x .2 i .out) in (
-              λ a. d .0 (told-done (openRefusal key nonce «data» s out) (writtenReply (x .0)) (length text) number (sym told ∙ a .0), sym left ∙ a .1),
+              λ a. d .0 (told-done (openRefusal tagLength key nonce «data» s out) (writtenReply (x .0)) (length text) number (sym told ∙ a .0), sym left ∙ a .1),
               λ b. let e = d .1 b in (told ∙ ap writtenNumbers (e .0), left ∙ e .1),
             );
-        seven = λ s out after r seen k n d t l room m.
-            let x = message-examples key nonce «data» .opens s out in
-            let e = message-demand key nonce «data» .seven s out (x .1) (x .0) (x .2) k n d t l room m in
+        seven = λ s out after r seen least most k n d t l room m.
+            let x = message-examples tagLength key nonce «data» .opens s out in
+            let e = message-demand tagLength most key nonce «data» .seven s out (x .1) (x .0) (x .2) least most k n d t l room m in
             (seen .0 ∙ (λ i. writtenNumbers (x .2 i .answer)) ∙ ap writtenNumbers (e .0), seen .1 ∙ (λ i. x .2 i .out) ∙ e .1);
       }
 

@@ -9,7 +9,7 @@ use lib.ListN.{length, take, drop, length-drop}
 use lib.Seq.{length-take-le}
 use borrow.Author.Tests.{leb-false, eq-eqb, ne-eqb, le-ltb}
 use Rattle.calls.specs.Calls.{_if_else_, Reply, refused, done, Work, Outcome, accepted, leftUnchanged, sameBytes, answerReply, writtenReply, unlessRefused, refusedWith, isRefused}
-use Rattle.acorn_model.specs.Stretches.{tagOf}
+use Rattle.acorn_model.specs.Stretches.{tagBytes}
 use Rattle.acorn_model.specs.declared.Phase.the-variants.{Closed}
 use Rattle.acorn_model.specs.Machine.{Machine, Call, begin, dataCall, sealText, checkText, sealClose, checkClose, outputOf, keyLength, refusal, wrote, answered, verdict, textEnded, closed, enter, work, call, work as machineWork}
 use Rattle.acorn_model.specs.Message.{tagMatches}
@@ -64,7 +64,7 @@ judged false m n e = sym (same-number 7 n e)
 
 work-refused : (m : Machine) (c : Call) (n : ℕ) → work m c .answer ≡ refused n → Judged (work m c) c n
 unfolding work wrote answered
-work-refused m (begin key nonce) n e = never e
+work-refused m (begin key nonce _) n e = never e
 work-refused m (dataCall piece) n e = never e
 work-refused m (sealText piece out) n e = never e
 work-refused m (checkText piece) n e = never e
@@ -87,12 +87,12 @@ seven-call m c e =
 -- what a working call answers goes by its tag
 work-number : (m : Machine) (c : Call) → AnsweredBy (7 if tagDiffers m c else accepted) (wrappedReply (work m c .answer))
 unfolding work wrote answered wrappedReply verdict
-work-number m (begin key nonce) = accepted-by _
+work-number m (begin key nonce _) = accepted-by _
 work-number m (dataCall piece) = accepted-by _
 work-number m (sealText piece out) = accepted-by _
 work-number m (checkText piece) = accepted-by _
 work-number m (sealClose out) = accepted-by _
-work-number m (checkClose tag) = by (sameBytes tag (tagOf (textEnded m .state)))
+work-number m (checkClose tag) = by (sameBytes tag (tagBytes (m .tagLength) (textEnded m .state)))
   where
     by : (b : Bool) → AnsweredBy (7 if not b else accepted) (wrappedReply (verdict b (closed m)))
     by true = accepted-by _
@@ -277,10 +277,10 @@ refusal-demand =
       writers = writer-refusals;
       ticket-5001 = λ es w l o n t out after r v called.
           writer-refusals w (add t out) r after called .number 4 (full (writerOf w) t out o (writer-demand es w l .tickets .0 ∙ n) v);
-      sealing = λ key nonce d text out after r h. refused-as _ _ _ out (writtenReply r) after h;
-      opening = λ key nonce d s out after r h. refused-as _ _ _ out (writtenReply r) after h;
+      sealing = λ n key nonce d text out after r h. refused-as _ _ _ out (writtenReply r) after h;
+      opening = λ n key nonce d s out after r h. refused-as _ _ _ out (writtenReply r) after h;
       openings = opening-refusals;
-      message-sevens = λ key key′ nonce nonce′ d d′ s s′ out after after′ r r′ h h′.
+      message-sevens = λ n n′ key key′ nonce nonce′ d d′ s s′ out after after′ r r′ h h′.
           alike (refused-as _ _ _ out (writtenReply r) after h) (refused-as _ _ _ out (writtenReply r′) after′ h′);
       tape-sevens = λ key key′ tape tape′ out after after′ r r′ h h′.
           let o = opening-refusals key tape out after r h in

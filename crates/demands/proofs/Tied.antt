@@ -11,13 +11,20 @@ use denote.Triple.Clauses
 use denote.Ref.{now}
 use Rattle.acorn_model.specs.Machine as machine
 use Rattle.session.specs.Contracts.{machineOf, Called}
+use Rattle.acorn_model.specs.Stretches.{fullTagLength}
 use Rattle.message.specs.Contracts.{Seals, OpensTo, DecryptsInto}
 use Rattle.message.proofs.seal as seal'
+use Rattle.message.proofs.seal_tag as seal-tag'
 use Rattle.message.proofs.seal.Kinds as seal-kinds
+use Rattle.message.proofs.seal_tag.Kinds as seal-tag-kinds
 use Rattle.message.proofs.seal.Reads as seal-reads
+use Rattle.message.proofs.seal_tag.Reads as seal-tag-reads
 use Rattle.message.proofs.open as open'
+use Rattle.message.proofs.open_tag as open-tag'
 use Rattle.message.proofs.open.Kinds as open-kinds
+use Rattle.message.proofs.open_tag.Kinds as open-tag-kinds
 use Rattle.message.proofs.open.Reads as open-reads
+use Rattle.message.proofs.open_tag.Reads as open-tag-reads
 use Rattle.message.proofs.decrypt_into as decrypt-into'
 use Rattle.message.proofs.decrypt_into.Kinds as decrypt-into-kinds
 use Rattle.message.proofs.decrypt_into.Reads as decrypt-into-reads
@@ -66,8 +73,11 @@ use Rattle.session.proofs.Session.fresh as fresh'
 use Rattle.session.proofs.Session.fresh.Kinds as fresh-kinds
 use Rattle.session.proofs.Session.fresh.Reads as fresh-reads
 use Rattle.session.proofs.Session.begin as begin'
+use Rattle.session.proofs.Session.begin_tag as begin-tag'
 use Rattle.session.proofs.Session.begin.Kinds as begin-kinds
+use Rattle.session.proofs.Session.begin_tag.Kinds as begin-tag-kinds
 use Rattle.session.proofs.Session.begin.Reads as begin-reads
+use Rattle.session.proofs.Session.begin_tag.Reads as begin-tag-reads
 use Rattle.session.proofs.Session.data as data'
 use Rattle.session.proofs.Session.data.Kinds as data-kinds
 use Rattle.session.proofs.Session.data.Reads as data-reads
@@ -100,8 +110,16 @@ module _ (κs : Lifetimes.Lfts 2) (a : World.ArgsD begin'.signature κs) where
   begin-asks = tt
 
   begin-says : (r : World.ResD begin'.signature κs) (x : Clauses.AtExit (Kinds'.endedOf 2 begin-kinds.ps begin-kinds.r) κs) → begin-reads.Learnt κs a r x
-      → Called (a .0) (machine.begin (now (a .1 .0)) (now (a .1 .1 .0))) r []
+      → Called (a .0) (machine.begin (now (a .1 .0)) (now (a .1 .1 .0)) fullTagLength) r []
   begin-says r x h = h
+
+module _ (κs : Lifetimes.Lfts 2) (a : World.ArgsD begin-tag'.signature κs) where
+  begin-tag-asks : begin-tag-reads.Asked κs a
+  begin-tag-asks = tt
+
+  begin-tag-says : (r : World.ResD begin-tag'.signature κs) (x : Clauses.AtExit (Kinds'.endedOf 2 begin-tag-kinds.ps begin-tag-kinds.r) κs) → begin-tag-reads.Learnt κs a r x
+      → Called (a .0) (machine.begin (now (a .1 .0)) (now (a .1 .1 .0)) (a .1 .1 .1 .0)) r []
+  begin-tag-says r x h = h
 
 module _ (κs : Lifetimes.Lfts 1) (a : World.ArgsD data'.signature κs) where
   data-asks : data-reads.Asked κs a
@@ -156,16 +174,32 @@ module _ (κs : Lifetimes.Lfts 5) (a : World.ArgsD seal'.signature κs) where
   seal-asks = tt
 
   seal-says : (r : World.ResD seal'.signature κs) (x : Clauses.AtExit (Kinds'.endedOf 5 seal-kinds.ps seal-kinds.r) κs) → seal-reads.Learnt κs a r x
-      → Seals (now (a .0)) (now (a .1 .0)) (now (a .1 .1 .0)) (now (a .1 .1 .1 .0)) (now (a .1 .1 .1 .1 .0)) r (now (x .1 .1 .1 .1 .0))
+      → Seals fullTagLength (now (a .0)) (now (a .1 .0)) (now (a .1 .1 .0)) (now (a .1 .1 .1 .0)) (now (a .1 .1 .1 .1 .0)) r (now (x .1 .1 .1 .1 .0))
   seal-says r x h = h
+
+module _ (κs : Lifetimes.Lfts 5) (a : World.ArgsD seal-tag'.signature κs) where
+  seal-tag-asks : seal-tag-reads.Asked κs a
+  seal-tag-asks = tt
+
+  seal-tag-says : (r : World.ResD seal-tag'.signature κs) (x : Clauses.AtExit (Kinds'.endedOf 5 seal-tag-kinds.ps seal-tag-kinds.r) κs) → seal-tag-reads.Learnt κs a r x
+      → Seals (a .1 .1 .1 .1 .0) (now (a .0)) (now (a .1 .0)) (now (a .1 .1 .0)) (now (a .1 .1 .1 .0)) (now (a .1 .1 .1 .1 .1 .0)) r (now (x .1 .1 .1 .1 .1 .0))
+  seal-tag-says r x h = h
 
 module _ (κs : Lifetimes.Lfts 5) (a : World.ArgsD open'.signature κs) where
   open-asks : open-reads.Asked κs a
   open-asks = tt
 
   open-says : (r : World.ResD open'.signature κs) (x : Clauses.AtExit (Kinds'.endedOf 5 open-kinds.ps open-kinds.r) κs) → open-reads.Learnt κs a r x
-      → OpensTo (now (a .0)) (now (a .1 .0)) (now (a .1 .1 .0)) (now (a .1 .1 .1 .0)) (now (a .1 .1 .1 .1 .0)) r (now (x .1 .1 .1 .1 .0))
+      → OpensTo fullTagLength (now (a .0)) (now (a .1 .0)) (now (a .1 .1 .0)) (now (a .1 .1 .1 .0)) (now (a .1 .1 .1 .1 .0)) r (now (x .1 .1 .1 .1 .0))
   open-says r x h = h
+
+module _ (κs : Lifetimes.Lfts 5) (a : World.ArgsD open-tag'.signature κs) where
+  open-tag-asks : open-tag-reads.Asked κs a
+  open-tag-asks = tt
+
+  open-tag-says : (r : World.ResD open-tag'.signature κs) (x : Clauses.AtExit (Kinds'.endedOf 5 open-tag-kinds.ps open-tag-kinds.r) κs) → open-tag-reads.Learnt κs a r x
+      → OpensTo (a .1 .1 .1 .1 .0) (now (a .0)) (now (a .1 .0)) (now (a .1 .1 .0)) (now (a .1 .1 .1 .0)) (now (a .1 .1 .1 .1 .1 .0)) r (now (x .1 .1 .1 .1 .1 .0))
+  open-tag-says r x h = h
 
 module _ (κs : Lifetimes.Lfts 5) (a : World.ArgsD decrypt-into'.signature κs) where
   decrypt-into-asks : decrypt-into-reads.Asked κs a

@@ -9,6 +9,7 @@ use borrow.Fn.Kinds as Kinds'
 use denote.Triple.Clauses
 use denote.Ref.{now}
 use Rattle.acorn_model.specs.declared.Kind.the-variants.{Sealing, Checking}
+use Rattle.acorn_model.specs.Stretches.{fullTagLength}
 use Rattle.acorn_model.specs.Machine as machine
 use Rattle.tape_model.specs.Writer as plain
 use Rattle.session.specs.Words.{wordsFor}
@@ -21,8 +22,11 @@ use Rattle.haul_tape.proofs.ht_session_fresh_checking as fresh-checking'
 use Rattle.haul_tape.proofs.ht_session_fresh_checking.Kinds as fresh-checking-kinds
 use Rattle.haul_tape.proofs.ht_session_fresh_checking.Reads as fresh-checking-reads
 use Rattle.haul_tape.proofs.ht_session_begin as begin'
+use Rattle.haul_tape.proofs.ht_session_begin_tag as begin-tag'
 use Rattle.haul_tape.proofs.ht_session_begin.Kinds as begin-kinds
+use Rattle.haul_tape.proofs.ht_session_begin_tag.Kinds as begin-tag-kinds
 use Rattle.haul_tape.proofs.ht_session_begin.Reads as begin-reads
+use Rattle.haul_tape.proofs.ht_session_begin_tag.Reads as begin-tag-reads
 use Rattle.haul_tape.proofs.ht_session_data as data'
 use Rattle.haul_tape.proofs.ht_session_data.Kinds as data-kinds
 use Rattle.haul_tape.proofs.ht_session_data.Reads as data-reads
@@ -51,11 +55,17 @@ use Rattle.haul_tape.proofs.ht_writer_finish as finish'
 use Rattle.haul_tape.proofs.ht_writer_finish.Kinds as finish-kinds
 use Rattle.haul_tape.proofs.ht_writer_finish.Reads as finish-reads
 use Rattle.haul_tape.proofs.ht_seal as seal'
+use Rattle.haul_tape.proofs.ht_seal_tag as seal-tag'
 use Rattle.haul_tape.proofs.ht_seal.Kinds as seal-kinds
+use Rattle.haul_tape.proofs.ht_seal_tag.Kinds as seal-tag-kinds
 use Rattle.haul_tape.proofs.ht_seal.Reads as seal-reads
+use Rattle.haul_tape.proofs.ht_seal_tag.Reads as seal-tag-reads
 use Rattle.haul_tape.proofs.ht_open as open'
+use Rattle.haul_tape.proofs.ht_open_tag as open-tag'
 use Rattle.haul_tape.proofs.ht_open.Kinds as open-kinds
+use Rattle.haul_tape.proofs.ht_open_tag.Kinds as open-tag-kinds
 use Rattle.haul_tape.proofs.ht_open.Reads as open-reads
+use Rattle.haul_tape.proofs.ht_open_tag.Reads as open-tag-reads
 use Rattle.haul_tape.proofs.ht_pack_ticket as pack-ticket'
 use Rattle.haul_tape.proofs.ht_pack_ticket.Kinds as pack-ticket-kinds
 use Rattle.haul_tape.proofs.ht_pack_ticket.Reads as pack-ticket-reads
@@ -102,8 +112,17 @@ module _ (κs : Lifetimes.Lfts 3) (a : World.ArgsD begin'.signature κs) where
 
   begin-says : (r : World.ResD begin'.signature κs) (x : Clauses.AtExit (Kinds'.endedOf 3 begin-kinds.ps begin-kinds.r) κs)
       → begin-reads.Learnt κs a r x
-      → SessionSeen (now (a .0)) (machine.begin (now (a .1 .0)) (now (a .1 .1 .0))) (now (x .0)) r []
+      → SessionSeen (now (a .0)) (machine.begin (now (a .1 .0)) (now (a .1 .1 .0)) fullTagLength) (now (x .0)) r []
   begin-says r x h = h
+
+module _ (κs : Lifetimes.Lfts 3) (a : World.ArgsD begin-tag'.signature κs) where
+  begin-tag-asks : begin-tag-reads.Asked κs a
+  begin-tag-asks = tt
+
+  begin-tag-says : (r : World.ResD begin-tag'.signature κs) (x : Clauses.AtExit (Kinds'.endedOf 3 begin-tag-kinds.ps begin-tag-kinds.r) κs)
+      → begin-tag-reads.Learnt κs a r x
+      → SessionSeen (now (a .0)) (machine.begin (now (a .1 .0)) (now (a .1 .1 .0)) (a .1 .1 .1 .0)) (now (x .0)) r []
+  begin-tag-says r x h = h
 
 module _ (κs : Lifetimes.Lfts 2) (a : World.ArgsD data'.signature κs) where
   data-asks : data-reads.Asked κs a
@@ -192,8 +211,17 @@ module _ (κs : Lifetimes.Lfts 5) (a : World.ArgsD seal'.signature κs) where
 
   seal-says : (r : World.ResD seal'.signature κs) (x : Clauses.AtExit (Kinds'.endedOf 5 seal-kinds.ps seal-kinds.r) κs)
       → seal-reads.Learnt κs a r x
-      → SealSeen (now (a .0)) (now (a .1 .0)) (now (a .1 .1 .0)) (now (a .1 .1 .1 .0)) (now (a .1 .1 .1 .1 .0)) r (now (x .1 .1 .1 .1 .0))
+      → SealSeen fullTagLength (now (a .0)) (now (a .1 .0)) (now (a .1 .1 .0)) (now (a .1 .1 .1 .0)) (now (a .1 .1 .1 .1 .0)) r (now (x .1 .1 .1 .1 .0))
   seal-says r x h = h
+
+module _ (κs : Lifetimes.Lfts 5) (a : World.ArgsD seal-tag'.signature κs) where
+  seal-tag-asks : seal-tag-reads.Asked κs a
+  seal-tag-asks = tt
+
+  seal-tag-says : (r : World.ResD seal-tag'.signature κs) (x : Clauses.AtExit (Kinds'.endedOf 5 seal-tag-kinds.ps seal-tag-kinds.r) κs)
+      → seal-tag-reads.Learnt κs a r x
+      → SealSeen (a .1 .1 .1 .1 .0) (now (a .0)) (now (a .1 .0)) (now (a .1 .1 .0)) (now (a .1 .1 .1 .0)) (now (a .1 .1 .1 .1 .1 .0)) r (now (x .1 .1 .1 .1 .1 .0))
+  seal-tag-says r x h = h
 
 module _ (κs : Lifetimes.Lfts 5) (a : World.ArgsD open'.signature κs) where
   open-asks : open-reads.Asked κs a
@@ -201,8 +229,17 @@ module _ (κs : Lifetimes.Lfts 5) (a : World.ArgsD open'.signature κs) where
 
   open-says : (r : World.ResD open'.signature κs) (x : Clauses.AtExit (Kinds'.endedOf 5 open-kinds.ps open-kinds.r) κs)
       → open-reads.Learnt κs a r x
-      → OpenSeen (now (a .0)) (now (a .1 .0)) (now (a .1 .1 .0)) (now (a .1 .1 .1 .0)) (now (a .1 .1 .1 .1 .0)) r (now (x .1 .1 .1 .1 .0))
+      → OpenSeen fullTagLength (now (a .0)) (now (a .1 .0)) (now (a .1 .1 .0)) (now (a .1 .1 .1 .0)) (now (a .1 .1 .1 .1 .0)) r (now (x .1 .1 .1 .1 .0))
   open-says r x h = h
+
+module _ (κs : Lifetimes.Lfts 5) (a : World.ArgsD open-tag'.signature κs) where
+  open-tag-asks : open-tag-reads.Asked κs a
+  open-tag-asks = tt
+
+  open-tag-says : (r : World.ResD open-tag'.signature κs) (x : Clauses.AtExit (Kinds'.endedOf 5 open-tag-kinds.ps open-tag-kinds.r) κs)
+      → open-tag-reads.Learnt κs a r x
+      → OpenSeen (a .1 .1 .1 .1 .0) (now (a .0)) (now (a .1 .0)) (now (a .1 .1 .0)) (now (a .1 .1 .1 .0)) (now (a .1 .1 .1 .1 .1 .0)) r (now (x .1 .1 .1 .1 .1 .0))
+  open-tag-says r x h = h
 
 module _ (κs : Lifetimes.Lfts 1) (a : World.ArgsD pack-ticket'.signature κs) where
   pack-ticket-asks : pack-ticket-reads.Asked κs a

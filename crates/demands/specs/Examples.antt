@@ -2,15 +2,16 @@
 -- and calls that are refused.
 use mathlib.Core.Path.{_≡_}
 use mathlib.Core.List.{List, [], _∷_, _++_, map}
-use Prim.Native.Nat.{ℕ, _≤_}
+use Prim.Native.Nat.{ℕ, _≤_, _<_}
 use lib.ListN.{length, replicate}
 use Rattle.acorn_model.specs.declared.Kind.{Kind}
 use Rattle.acorn_model.specs.declared.Kind.the-variants.{Sealing, Checking}
 use Rattle.calls.specs.declared.Written.{Written}
 use Rattle.calls.specs.Calls.{AreBytes, Reply, refused, done, Work, writtenReply}
-use Rattle.acorn_model.specs.Paper.{newTag}
+use Rattle.acorn_model.specs.Stretches.{fullTagLength}
+use Rattle.acorn_model.specs.Paper.{newTag, newTagOfLength}
 use Rattle.calls.specs.Lists.{Entry, callsOf, AllAccepted}
-use Rattle.acorn_model.specs.Machine.{tagLength, Machine, Call, begin, dataCall, sealText, checkText, sealClose, checkClose, keyLength}
+use Rattle.acorn_model.specs.Machine.{leastTagLength, Machine, Call, begin, dataCall, sealText, checkText, sealClose, checkClose, keyLength}
 use Rattle.acorn_model.specs.Laws.{WithinLimits}
 use Rattle.acorn_model.specs.Lists.{logOf, Ended, Alike}
 use Rattle.tape_model.specs.declared.OpenedTape.{OpenedTape}
@@ -63,57 +64,73 @@ Answers answers es m = map (λ e. e .answer) es ≡ answers
 abbrev pub EndAlike : Kind → List (Entry Call Work) → List (Entry Call Work) → Machine → Type 0
 EndAlike kind es es′ m′ = Ended m′ × Alike kind (logOf es) (logOf es′)
 
-abbrev pub sealingCalls : (key nonce «data» text out tagOut : List ℕ) → List Call
-sealingCalls key nonce «data» text out tagOut = begin key nonce ∷ dataCall «data» ∷ sealText text out ∷ sealClose tagOut ∷ []
+abbrev pub sealingCalls : (tagLength : ℕ) (key nonce «data» text out tagOut : List ℕ) → List Call
+sealingCalls tagLength key nonce «data» text out tagOut = begin key nonce tagLength ∷ dataCall «data» ∷ sealText text out ∷ sealClose tagOut ∷ []
 
-abbrev pub checkingCalls : (key nonce «data» cipher tag : List ℕ) → List Call
-checkingCalls key nonce «data» cipher tag = begin key nonce ∷ dataCall «data» ∷ checkText cipher ∷ checkClose tag ∷ []
+abbrev pub checkingCalls : (tagLength : ℕ) (key nonce «data» cipher tag : List ℕ) → List Call
+checkingCalls tagLength key nonce «data» cipher tag = begin key nonce tagLength ∷ dataCall «data» ∷ checkText cipher ∷ checkClose tag ∷ []
 
+-- calls that are refused, before and after a begin that fixes a tag of 8 bytes, and a close that writes as many
 abbrev pub refusedCalls : List Call
-refusedCalls = dataCall [] ∷ begin [] [] ∷ begin (replicate 16 0) (replicate 16 0) ∷ dataCall (replicate 65537 0) ∷ sealClose [] ∷ []
+refusedCalls =
+    dataCall []
+    ∷ begin [] [] 7
+    ∷ begin (replicate 16 0) (replicate 16 0) 17
+    ∷ begin [] [] 12
+    ∷ begin (replicate 16 0) (replicate 16 0) 8
+    ∷ dataCall (replicate 65537 0)
+    ∷ sealClose (replicate 7 0)
+    ∷ sealClose (replicate 8 0)
+    ∷ []
 
-abbrev pub cutCalls : (key nonce «data» first second firstOut secondOut tagOut : List ℕ) → List Call
-cutCalls key nonce «data» first second firstOut secondOut tagOut =
-    begin key nonce ∷ dataCall «data» ∷ sealText first firstOut ∷ sealText second secondOut ∷ sealClose tagOut ∷ []
+-- where 8 bytes are fixed, a tag of 16 is refused
+abbrev pub sixteenGiven : List Call
+sixteenGiven = begin (replicate 16 0) (replicate 16 0) 8 ∷ checkClose (replicate 16 0) ∷ []
 
-abbrev pub cutCheckingCalls : (key nonce «data» first second tag : List ℕ) → List Call
-cutCheckingCalls key nonce «data» first second tag = begin key nonce ∷ dataCall «data» ∷ checkText first ∷ checkText second ∷ checkClose tag ∷ []
+abbrev pub cutCalls : (tagLength : ℕ) (key nonce «data» first second firstOut secondOut tagOut : List ℕ) → List Call
+cutCalls tagLength key nonce «data» first second firstOut secondOut tagOut =
+    begin key nonce tagLength ∷ dataCall «data» ∷ sealText first firstOut ∷ sealText second secondOut ∷ sealClose tagOut ∷ []
+
+abbrev pub cutCheckingCalls : (tagLength : ℕ) (key nonce «data» first second tag : List ℕ) → List Call
+cutCheckingCalls tagLength key nonce «data» first second tag = begin key nonce tagLength ∷ dataCall «data» ∷ checkText first ∷ checkText second ∷ checkClose tag ∷ []
 
 -- the data in two pieces, and between them an empty piece and a begin that is refused with 1
-abbrev pub cutDataCalls : (key nonce first second text out tagOut : List ℕ) → List Call
-cutDataCalls key nonce first second text out tagOut =
-    begin key nonce ∷ dataCall first ∷ dataCall [] ∷ begin key nonce ∷ dataCall second ∷ sealText text out ∷ sealClose tagOut ∷ []
+abbrev pub cutDataCalls : (tagLength : ℕ) (key nonce first second text out tagOut : List ℕ) → List Call
+cutDataCalls tagLength key nonce first second text out tagOut =
+    begin key nonce tagLength ∷ dataCall first ∷ dataCall [] ∷ begin key nonce tagLength ∷ dataCall second ∷ sealText text out ∷ sealClose tagOut ∷ []
 
 pub record SessionExamples : Type 0 where
   -- begin, data, text and close of a sealing session, with room for what they write, are accepted and end it
-  pub sealing : (key nonce «data» text out tagOut : List ℕ) → WithinLimits key nonce «data» text → length text ≤ length out → tagLength ≤ length tagOut
-      → SomeSession Sealing (sealingCalls key nonce «data» text out tagOut) Finish
+  pub sealing : (tagLength : ℕ) (key nonce «data» text out tagOut : List ℕ) → WithinLimits tagLength key nonce «data» text → length text ≤ length out → tagLength ≤ length tagOut
+      → SomeSession Sealing (sealingCalls tagLength key nonce «data» text out tagOut) Finish
   -- those of a checking session that is given the right tag too: it says good
-  pub good : (key nonce «data» cipher : List ℕ) → WithinLimits key nonce «data» cipher
-      → SomeSession Checking (checkingCalls key nonce «data» cipher (newTag key nonce «data» cipher)) Finish
-  -- and given any other of 16 bytes it says 7 and has ended
-  pub seven : (key nonce «data» cipher tag : List ℕ) → WithinLimits key nonce «data» cipher → length tag ≡ tagLength
-      → (tag ≡ newTag key nonce «data» cipher → ⊥)
-      → SomeSession Checking (checkingCalls key nonce «data» cipher tag) (λ es m. (logOf es .verdicts ≡ (refused 7 ∷ [])) × Ended m)
-  -- a list that is sent back with 1, 2, 5 and 6
-  pub refusals : SomeSession Sealing refusedCalls (Answers (refused 1 ∷ refused 2 ∷ done (record { bytes = 0; steps = 1792 }) ∷ refused 5 ∷ refused 6 ∷ []))
+  pub good : (tagLength : ℕ) (key nonce «data» cipher : List ℕ) → WithinLimits tagLength key nonce «data» cipher
+      → SomeSession Checking (checkingCalls tagLength key nonce «data» cipher (newTagOfLength tagLength key nonce «data» cipher)) Finish
+  -- and given any other of as many bytes it says 7 and has ended
+  pub seven : (tagLength : ℕ) (key nonce «data» cipher tag : List ℕ) → WithinLimits tagLength key nonce «data» cipher → length tag ≡ tagLength
+      → (tag ≡ newTagOfLength tagLength key nonce «data» cipher → ⊥)
+      → SomeSession Checking (checkingCalls tagLength key nonce «data» cipher tag) (λ es m. (logOf es .verdicts ≡ (refused 7 ∷ [])) × Ended m)
+  -- a list that is sent back with 1, 9, 2, 5 and 6
+  pub refusals : SomeSession Sealing refusedCalls
+      (Answers (refused 1 ∷ refused 9 ∷ refused 9 ∷ refused 2 ∷ done (record { bytes = 0; steps = 1792 }) ∷ refused 5 ∷ refused 6 ∷ done (record { bytes = 8; steps = 3072 }) ∷ []))
+  pub sixteen : SomeSession Checking sixteenGiven (Answers (done (record { bytes = 0; steps = 1792 }) ∷ refused 2 ∷ []))
   -- a text in one piece and in two: both lists end, and they are alike
-  pub cuts : (key nonce «data» first second out firstOut secondOut tagOut : List ℕ) → WithinLimits key nonce «data» (first ++ second)
+  pub cuts : (tagLength : ℕ) (key nonce «data» first second out firstOut secondOut tagOut : List ℕ) → WithinLimits tagLength key nonce «data» (first ++ second)
       → length (first ++ second) ≤ length out → length first ≤ length firstOut → length second ≤ length secondOut → tagLength ≤ length tagOut
-      → SomeSession Sealing (sealingCalls key nonce «data» (first ++ second) out tagOut)
-      (λ es m. Ended m × SomeSession Sealing (cutCalls key nonce «data» first second firstOut secondOut tagOut) (EndAlike Sealing es))
-  -- and so do a checking session's two lists, with whatever tag of 16 bytes
-  pub checking-cuts : (key nonce «data» first second tag : List ℕ) → WithinLimits key nonce «data» (first ++ second) → length tag ≡ tagLength
-      → SomeSession Checking (checkingCalls key nonce «data» (first ++ second) tag)
-      (λ es m. Ended m × SomeSession Checking (cutCheckingCalls key nonce «data» first second tag) (EndAlike Checking es))
+      → SomeSession Sealing (sealingCalls tagLength key nonce «data» (first ++ second) out tagOut)
+      (λ es m. Ended m × SomeSession Sealing (cutCalls tagLength key nonce «data» first second firstOut secondOut tagOut) (EndAlike Sealing es))
+  -- and so do a checking session's two lists, with whatever tag of that length
+  pub checking-cuts : (tagLength : ℕ) (key nonce «data» first second tag : List ℕ) → WithinLimits tagLength key nonce «data» (first ++ second) → length tag ≡ tagLength
+      → SomeSession Checking (checkingCalls tagLength key nonce «data» (first ++ second) tag)
+      (λ es m. Ended m × SomeSession Checking (cutCheckingCalls tagLength key nonce «data» first second tag) (EndAlike Checking es))
   -- and data in one piece and in pieces, with an empty piece and a refused call between them
-  pub data-cuts : (key nonce first second text out tagOut : List ℕ) → WithinLimits key nonce (first ++ second) text
+  pub data-cuts : (tagLength : ℕ) (key nonce first second text out tagOut : List ℕ) → WithinLimits tagLength key nonce (first ++ second) text
       → length text ≤ length out → tagLength ≤ length tagOut
-      → SomeSession Sealing (sealingCalls key nonce (first ++ second) text out tagOut)
-      (λ es m. Ended m × SomeSession Sealing (cutDataCalls key nonce first second text out tagOut) (EndAlike Sealing es))
+      → SomeSession Sealing (sealingCalls tagLength key nonce (first ++ second) text out tagOut)
+      (λ es m. Ended m × SomeSession Sealing (cutDataCalls tagLength key nonce first second text out tagOut) (EndAlike Sealing es))
   -- there are strings within the limits, and for every tag there is another
-  pub sizes : WithinLimits (replicate 16 0) (replicate 16 0) [] (0 ∷ [])
-  pub another : (T : List ℕ) → (tag : List ℕ) × AreBytes tag × (length tag ≡ tagLength) × (tag ≡ T → ⊥)
+  pub sizes : (tagLength : ℕ) → leastTagLength ≤ tagLength → tagLength ≤ fullTagLength → WithinLimits tagLength (replicate 16 0) (replicate 16 0) [] (0 ∷ [])
+  pub another : (tagLength : ℕ) → 0 < tagLength → (T : List ℕ) → (tag : List ℕ) × AreBytes tag × (length tag ≡ tagLength) × (tag ≡ T → ⊥)
 
 -- ## Lists of writers
 
@@ -145,12 +162,12 @@ pub record WriterExamples : Type 0 where
 
 -- ## Whole messages
 
-pub record MessageExamples (key nonce «data» : List ℕ) : Type 0 where
-  pub seals : (text out : List ℕ) → (r : Written) × (after : List ℕ) × Seals key nonce «data» text out r after
-  pub opens : (sealedBytes out : List ℕ) → (r : Written) × (after : List ℕ) × OpensTo key nonce «data» sealedBytes out r after
-  -- within the limits, 16 bytes that are not the tag of an empty text are answered with 7
-  pub seven : (tag out : List ℕ) → WithinLimits key nonce «data» [] → length tag ≡ tagLength → (tag ≡ newTag key nonce «data» [] → ⊥)
-      → (r : Written) × (after : List ℕ) × OpensTo key nonce «data» tag out r after × (writtenReply r ≡ refused 7)
+pub record MessageExamples (tagLength : ℕ) (key nonce «data» : List ℕ) : Type 0 where
+  pub seals : (text out : List ℕ) → (r : Written) × (after : List ℕ) × Seals tagLength key nonce «data» text out r after
+  pub opens : (sealedBytes out : List ℕ) → (r : Written) × (after : List ℕ) × OpensTo tagLength key nonce «data» sealedBytes out r after
+  -- within the limits, as many bytes as a tag has that are not the tag of an empty text are answered with 7
+  pub seven : (tag out : List ℕ) → WithinLimits tagLength key nonce «data» [] → length tag ≡ tagLength → (tag ≡ newTagOfLength tagLength key nonce «data» [] → ⊥)
+      → (r : Written) × (after : List ℕ) × OpensTo tagLength key nonce «data» tag out r after × (writtenReply r ≡ refused 7)
 
 -- ## Tapes
 
@@ -173,6 +190,6 @@ pub record Examples : Type 0 where
   pub writers : WritersExist
   pub of-sessions : SessionExamples
   pub of-writers : WriterExamples
-  pub of-messages : (key nonce «data» : List ℕ) → MessageExamples key nonce «data»
+  pub of-messages : (tagLength : ℕ) (key nonce «data» : List ℕ) → MessageExamples tagLength key nonce «data»
   pub opening-replies : OpeningReplies
   pub of-tapes : TapeSeven

@@ -10,8 +10,9 @@ use Rattle.acorn_model.specs.declared.Kind.{Kind}
 use Rattle.acorn_model.specs.Bits.{Bits, bitsIn, bytes}
 use Rattle.calls.specs.Calls.{_if_else_, Reply, refused, done, Work, AreBytes, accepted, writtenOver}
 use Rattle.calls.specs.Lists.{Entry, callsOf, handedOn, CallsMade, AllAccepted}
-use Rattle.acorn_model.specs.Machine.{Call, fresh, call, outputOf, keyLength, nonceLength, tagLength, byteLimit}
-use Rattle.acorn_model.specs.Message.{tagMatches, sealRefusal, openRefusal}
+use Rattle.acorn_model.specs.Stretches.{fullTagLength}
+use Rattle.acorn_model.specs.Machine.{Call, fresh, call, outputOf, leastTagLength, keyLength, nonceLength, byteLimit}
+use Rattle.acorn_model.specs.Message.{tagMatchesWith, sealRefusal, openRefusal}
 use Rattle.acorn_model.specs.Lists.{Ended}
 use Rattle.acorn_model.specs.Laws.{ByPaper, WithinLimits}
 use Rattle.tape_model.specs.declared.Ticket.{Ticket}
@@ -77,7 +78,7 @@ pub record ListExports : Type 0 where
 
 -- ## Demand 1: numbers
 
--- the number told is n, the smallest that applies, or 0 where none does; a refused call is answered that number and zeros beside it, and leaves
+-- the number told is n, the first that applies, or 0 where none does; a refused call is answered that number and zeros beside it, and leaves
 -- `after` in the output that was `out`
 pub record NumberTold {A N : Type 0} (numbers : Reply A → N) (number : N → ℕ) (n : ℕ) (r : N) (out after : List ℕ) : Type 0 where
   pub told : number r ≡ n
@@ -112,10 +113,10 @@ pub record NumberExports : Type 0 where
   pub writers : (words : List ℕ) (c : WriterCall) (after : List ℕ) (r : HtAnswer) (out : List ℕ)
       → WriterSeen words c after r out → WriterNumbers words c after r out
   -- whole messages
-  pub sealing : (key nonce «data» text out after : List ℕ) (r : HtWritten) → SealSeen key nonce «data» text out r after
-      → NumberTold writtenNumbers (λ h. h .refused) (sealRefusal key nonce «data» text out) r out after
-  pub opening : (key nonce «data» sealedBytes out after : List ℕ) (r : HtWritten) → OpenSeen key nonce «data» sealedBytes out r after
-      → NumberTold writtenNumbers (λ h. h .refused) (openRefusal key nonce «data» sealedBytes out) r out after
+  pub sealing : (tagLength : ℕ) (key nonce «data» text out after : List ℕ) (r : HtWritten) → SealSeen tagLength key nonce «data» text out r after
+      → NumberTold writtenNumbers (λ h. h .refused) (sealRefusal tagLength key nonce «data» text out) r out after
+  pub opening : (tagLength : ℕ) (key nonce «data» sealedBytes out after : List ℕ) (r : HtWritten) → OpenSeen tagLength key nonce «data» sealedBytes out r after
+      → NumberTold writtenNumbers (λ h. h .refused) (openRefusal tagLength key nonce «data» sealedBytes out) r out after
   -- tapes
   pub opening-tapes : (key tape out after : List ℕ) (r : HtOpened) → OpenTapeSeen key tape out r after
       → NumberTold openedNumbers (λ h. h .refused) (openTapeRefusal key tape out) r out after
@@ -134,25 +135,25 @@ pub record NumberExports : Type 0 where
   pub reading : (string : List ℕ) (position : ℕ) (r : HtReading) → ReadTicketSeen string position r
       → (r .refused ≡ readerNumber (readerAt string position)) × ((r .refused ≡ accepted → ⊥) → r .position ≡ position)
 
--- ## Demand 2: whole messages
+-- ## Demand 2: whole messages, with a tag of any length from 8 to 16
 
-module _ (key nonce «data» : List ℕ) where
+module _ (tagLength : ℕ) (key nonce «data» : List ℕ) where
   pub record MessageExports : Type 0 where
     -- within the limits, with an output long enough, what is written is ciphertext and then tag, by the paper's relation and by nothing else
-    pub sealing : (text out after : List ℕ) (r : HtWritten) → SealSeen key nonce «data» text out r after
-        → WithinLimits key nonce «data» text → length text + tagLength ≤ length out
-        → (c T : Bits) → ByPaper key nonce «data» (length text) (bitsIn text) c T
+    pub sealing : (text out after : List ℕ) (r : HtWritten) → SealSeen tagLength key nonce «data» text out r after
+        → WithinLimits tagLength key nonce «data» text → length text + tagLength ≤ length out
+        → (c T : Bits) → ByPaper tagLength key nonce «data» (length text) (bitsIn text) c T
         → (r ≡ record { refused = 0; bytes = length text + tagLength }) × (after ≡ writtenOver (bytes (length text) c ++ bytes tagLength T) out)
     -- a text is given exactly when the sealed bytes are the paper's ciphertext and tag of it
     pub opening : (sealedBytes text out after : List ℕ) (r : HtWritten) → AreBytes sealedBytes → AreBytes text
-        → WithinLimits key nonce «data» text → length text ≤ length out → OpenSeen key nonce «data» sealedBytes out r after
-        → (c T : Bits) → ByPaper key nonce «data» (length text) (bitsIn text) c T
+        → WithinLimits tagLength key nonce «data» text → length text ≤ length out → OpenSeen tagLength key nonce «data» sealedBytes out r after
+        → (c T : Bits) → ByPaper tagLength key nonce «data» (length text) (bitsIn text) c T
         → ((r ≡ record { refused = 0; bytes = length text }) × (after ≡ writtenOver text out)) ↔ (sealedBytes ≡ bytes (length text) c ++ bytes tagLength T)
-    -- where the tag is not the new one and no smaller number applies, the number is 7, and nothing is written
-    pub seven : (sealedBytes out after : List ℕ) (r : HtWritten) → OpenSeen key nonce «data» sealedBytes out r after
-        → length key ≡ keyLength → length nonce ≡ nonceLength → length «data» ≤ byteLimit
+    -- where the tag is not the new one and neither 9 nor a smaller number applies, the number is 7, and nothing is written
+    pub seven : (sealedBytes out after : List ℕ) (r : HtWritten) → OpenSeen tagLength key nonce «data» sealedBytes out r after
+        → leastTagLength ≤ tagLength → tagLength ≤ fullTagLength → length key ≡ keyLength → length nonce ≡ nonceLength → length «data» ≤ byteLimit
         → tagLength ≤ length sealedBytes → length sealedBytes - tagLength ≤ byteLimit → length sealedBytes - tagLength ≤ length out
-        → tagMatches key nonce «data» sealedBytes ≡ false → (r ≡ record { refused = 7; bytes = 0 }) × (after ≡ out)
+        → tagMatchesWith tagLength key nonce «data» sealedBytes ≡ false → (r ≡ record { refused = 7; bytes = 0 }) × (after ≡ out)
 
 -- ## Demand 2: tickets and heads
 
@@ -207,6 +208,6 @@ pub record TapeExports : Type 0 where
 pub record ExportDemand : Type 0 where
   pub lists : ListExports
   pub numbers : NumberExports
-  pub messages : (key nonce «data» : List ℕ) → MessageExports key nonce «data»
+  pub messages : (tagLength : ℕ) (key nonce «data» : List ℕ) → MessageExports tagLength key nonce «data»
   pub packing : PackingExports
   pub tapes : TapeExports

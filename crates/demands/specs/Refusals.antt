@@ -8,7 +8,7 @@ use lib.Dec.{leb}
 use lib.ListN.{length, take, drop}
 use Rattle.calls.specs.declared.Written.{Written}
 use Rattle.calls.specs.Calls.{Work, _if_else_, Reply, refused, done, accepted, unlessRefused, sameBytes, answerReply, writtenReply, isRefused}
-use Rattle.acorn_model.specs.Stretches.{tagOf}
+use Rattle.acorn_model.specs.Stretches.{tagBytes}
 use Rattle.calls.specs.Lists.{Entry}
 use Rattle.acorn_model.specs.Machine.{Machine, Call, begin, dataCall, sealText, checkText, sealClose, checkClose, outputOf, keyLength, refusal, textEnded}
 use Rattle.acorn_model.specs.Lists.{Ended}
@@ -42,7 +42,7 @@ use Rattle.demands.specs.Writers.{WriterList}
 
 -- ## Numbers
 
--- Document 01's rule of the smallest number, where n is that number, or 0 if none applies: the answer is the number k exactly where n is k, and the
+-- The rule of the first number that applies, 9 right after 1 and else the smallest, where n is that number, or 0 if none applies: the answer is the number k exactly where n is k, and the
 -- call is accepted exactly where none applies
 pub record AnsweredBy {A : Type 0} (n : ℕ) (answer : Reply A) : Type 0 where
   pub refuses : (k : ℕ) → (answer ≡ refused (suc k)) ↔ (n ≡ suc k)
@@ -57,14 +57,14 @@ pub record RefusedBy {A : Type 0} (n : ℕ) (answer : Reply A) (out after : List
 
 -- 7: a close is given another tag than the machine comes to
 abbrev pub tagDiffers : Machine → Call → Bool
-tagDiffers m (begin key nonce) = false
+tagDiffers m (begin key nonce n) = false
 tagDiffers m (dataCall piece) = false
 tagDiffers m (sealText piece out) = false
 tagDiffers m (checkText piece) = false
 tagDiffers m (sealClose out) = false
-tagDiffers m (checkClose tag) = not (sameBytes tag (tagOf (textEnded m .state)))
+tagDiffers m (checkClose tag) = not (sameBytes tag (tagBytes (m .tagLength) (textEnded m .state)))
 
--- the smallest number that applies to a session's call, 7 among them
+-- the first number that applies to a session's call, 7 among them
 abbrev pub sessionNumber : Machine → Call → ℕ
 sessionNumber m c = unlessRefused (refusal m c) (7 if tagDiffers m c else accepted) (refusal m c)
 
@@ -124,16 +124,17 @@ pub record RefusalDemand : Type 0 where
       → (t : Ticket) (out after : List ℕ) (r : WriterReply) → writeRule t ≡ true → WriterCalled w (add t out) r after
       → answerReply (r .answer) ≡ refused 5
   -- whole messages
-  pub sealing : (key nonce «data» text out after : List ℕ) (r : Written) → Seals key nonce «data» text out r after
-      → RefusedBy (message.sealRefusal key nonce «data» text out) (writtenReply r) out after
-  pub opening : (key nonce «data» sealedBytes out after : List ℕ) (r : Written) → OpensTo key nonce «data» sealedBytes out r after
-      → RefusedBy (message.openRefusal key nonce «data» sealedBytes out) (writtenReply r) out after
+  pub sealing : (tagLength : ℕ) (key nonce «data» text out after : List ℕ) (r : Written) → Seals tagLength key nonce «data» text out r after
+      → RefusedBy (message.sealRefusal tagLength key nonce «data» text out) (writtenReply r) out after
+  pub opening : (tagLength : ℕ) (key nonce «data» sealedBytes out after : List ℕ) (r : Written) → OpensTo tagLength key nonce «data» sealedBytes out r after
+      → RefusedBy (message.openRefusal tagLength key nonce «data» sealedBytes out) (writtenReply r) out after
   -- tapes
   pub openings : (key tape out after : List ℕ) (r : OpenedTape) (opened : OpensTape key tape out r after) → OpeningRefusals key tape out after r opened
   -- two openings for which 7 is the number, with equal outputs before, are answered alike and leave equal outputs, whatever else they were given
-  pub message-sevens : (key key′ nonce nonce′ «data» data′ sealedBytes sealedBytes′ out after after′ : List ℕ) (r r′ : Written)
-      → OpensTo key nonce «data» sealedBytes out r after → OpensTo key′ nonce′ data′ sealedBytes′ out r′ after′
-      → message.openRefusal key nonce «data» sealedBytes out ≡ 7 → message.openRefusal key′ nonce′ data′ sealedBytes′ out ≡ 7
+  -- (so neither 9 nor a smaller number stops them; the lengths of their tags may differ)
+  pub message-sevens : (tagLength tagLength′ : ℕ) (key key′ nonce nonce′ «data» data′ sealedBytes sealedBytes′ out after after′ : List ℕ) (r r′ : Written)
+      → OpensTo tagLength key nonce «data» sealedBytes out r after → OpensTo tagLength′ key′ nonce′ data′ sealedBytes′ out r′ after′
+      → message.openRefusal tagLength key nonce «data» sealedBytes out ≡ 7 → message.openRefusal tagLength′ key′ nonce′ data′ sealedBytes′ out ≡ 7
       → (writtenReply r ≡ writtenReply r′) × (after ≡ after′)
   pub tape-sevens : (key key′ tape tape′ out after after′ : List ℕ) (r r′ : OpenedTape) → OpensTape key tape out r after → OpensTape key′ tape′ out r′ after′
       → openTapeRefusal key tape out ≡ 7 → openTapeRefusal key′ tape′ out ≡ 7 → (openedReply r ≡ openedReply r′) × (after ≡ after′)

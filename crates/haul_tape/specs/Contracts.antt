@@ -55,11 +55,11 @@ ResultSeen numbers result answer out = (answer ≡ numbers (result .answer)) × 
 
 -- each call of these by its arguments, the last of them its output as it stood, and by its answer r and its output `after`
 
-abbrev pub SealSeen : (key nonce «data» text out : List ℕ) → HtWritten → List ℕ → Type 0
-SealSeen key nonce «data» text out r after = ResultSeen writtenNumbers (sealMessage key nonce «data» text out) r after
+abbrev pub SealSeen : (tagLength : ℕ) (key nonce «data» text out : List ℕ) → HtWritten → List ℕ → Type 0
+SealSeen tagLength key nonce «data» text out r after = ResultSeen writtenNumbers (sealMessage tagLength key nonce «data» text out) r after
 
-abbrev pub OpenSeen : (key nonce «data» sealedBytes out : List ℕ) → HtWritten → List ℕ → Type 0
-OpenSeen key nonce «data» sealedBytes out r after = ResultSeen writtenNumbers (openMessage key nonce «data» sealedBytes out) r after
+abbrev pub OpenSeen : (tagLength : ℕ) (key nonce «data» sealedBytes out : List ℕ) → HtWritten → List ℕ → Type 0
+OpenSeen tagLength key nonce «data» sealedBytes out r after = ResultSeen writtenNumbers (openMessage tagLength key nonce «data» sealedBytes out) r after
 
 abbrev pub PackTicketSeen : Ticket → List ℕ → HtWritten → List ℕ → Type 0
 PackTicketSeen ticket out r after = ResultSeen writtenNumbers (packTicketInto ticket out) r after

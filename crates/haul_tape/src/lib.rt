@@ -28,6 +28,7 @@ ghost use mathlib.Core.Path.{_≡_};
 ghost use mathlib.Core.List.{[]};
 ghost use Rattle.acorn_model.specs.declared.Kind.the-variants.{Sealing, Checking};
 ghost use Rattle.calls.specs.Calls.{answerReply};
+ghost use Rattle.acorn_model.specs.Stretches.{fullTagLength};
 ghost use Rattle.acorn_model.specs.Machine as machine;
 ghost use Rattle.tape_model.specs.Writer as plain;
 ghost use Rattle.session.specs.Contracts.{sessionOutcome};
@@ -47,7 +48,7 @@ pub extern "C" fn ht_seal(
     text: &[u8],
     out: &mut [u8],
 ) -> HtWritten
-    ensures { λ r. ⌜ SealSeen (now (key .entry)) (now (nonce .entry)) (now («data» .entry)) (now (text .entry)) (now (out .entry)) r (now (out .exit)) ⌝ }
+    ensures { λ r. ⌜ SealSeen fullTagLength (now (key .entry)) (now (nonce .entry)) (now («data» .entry)) (now (text .entry)) (now (out .entry)) r (now (out .exit)) ⌝ }
 {
     written(message::seal(key, nonce, data, text, out))
 }
@@ -60,29 +61,57 @@ pub extern "C" fn ht_open(
     sealed: &[u8],
     out: &mut [u8],
 ) -> HtWritten
-    ensures { λ r. ⌜ OpenSeen (now (key .entry)) (now (nonce .entry)) (now («data» .entry)) (now (sealed .entry)) (now (out .entry)) r (now (out .exit)) ⌝ }
+    ensures { λ r. ⌜ OpenSeen fullTagLength (now (key .entry)) (now (nonce .entry)) (now («data» .entry)) (now (sealed .entry)) (now (out .entry)) r (now (out .exit)) ⌝ }
 {
     written(message::open(key, nonce, data, sealed, out))
+}
+
+#[no_mangle]
+pub extern "C" fn ht_seal_tag(
+    key: &[u8],
+    nonce: &[u8],
+    data: &[u8],
+    text: &[u8],
+    taglen: usize,
+    out: &mut [u8],
+) -> HtWritten
+    ensures { λ r. ⌜ SealSeen taglen (now (key .entry)) (now (nonce .entry)) (now («data» .entry)) (now (text .entry)) (now (out .entry)) r (now (out .exit)) ⌝ }
+{
+    written(message::seal_tag(key, nonce, data, text, taglen, out))
+}
+
+#[no_mangle]
+pub extern "C" fn ht_open_tag(
+    key: &[u8],
+    nonce: &[u8],
+    data: &[u8],
+    sealed: &[u8],
+    taglen: usize,
+    out: &mut [u8],
+) -> HtWritten
+    ensures { λ r. ⌜ OpenSeen taglen (now (key .entry)) (now (nonce .entry)) (now («data» .entry)) (now (sealed .entry)) (now (out .entry)) r (now (out .exit)) ⌝ }
+{
+    written(message::open_tag(key, nonce, data, sealed, taglen, out))
 }
 
 // ---- sessions: a message in pieces ----
 
 #[no_mangle]
-pub extern "C" fn ht_session_fresh_sealing(s: &mut [u64; 10])
+pub extern "C" fn ht_session_fresh_sealing(s: &mut [u64; 11])
     ensures { λ _. ⌜ now (s .exit) ≡ wordsFor (machine.fresh Sealing) ⌝ }
 {
     *s = Session::fresh(Kind::Sealing).words();
 }
 
 #[no_mangle]
-pub extern "C" fn ht_session_fresh_checking(s: &mut [u64; 10])
+pub extern "C" fn ht_session_fresh_checking(s: &mut [u64; 11])
     ensures { λ _. ⌜ now (s .exit) ≡ wordsFor (machine.fresh Checking) ⌝ }
 {
     *s = Session::fresh(Kind::Checking).words();
 }
 
 // The session after a call goes into its words, unless the call left it unchanged; and the answer into numbers.
-fn session_handed_back(s: &mut [u64; 10], reply: Reply) -> HtAnswer
+fn session_handed_back(s: &mut [u64; 11], reply: Reply) -> HtAnswer
     ensures { λ r. ⌜ r ≡ answerNumbers (answerReply (reply .answer)) ⌝ }
     ensures { λ _. ⌜ now (s .exit) ≡ wordsAfter wordsFor (now (s .entry)) (sessionOutcome reply []) ⌝ }
 {
@@ -97,15 +126,28 @@ fn session_handed_back(s: &mut [u64; 10], reply: Reply) -> HtAnswer
 }
 
 #[no_mangle]
-pub extern "C" fn ht_session_begin(s: &mut [u64; 10], key: &[u8], nonce: &[u8]) -> HtAnswer
-    ensures { λ r. ⌜ SessionSeen (now (s .entry)) (machine.begin (now (key .entry)) (now (nonce .entry))) (now (s .exit)) r [] ⌝ }
+pub extern "C" fn ht_session_begin(s: &mut [u64; 11], key: &[u8], nonce: &[u8]) -> HtAnswer
+    ensures { λ r. ⌜ SessionSeen (now (s .entry)) (machine.begin (now (key .entry)) (now (nonce .entry)) fullTagLength) (now (s .exit)) r [] ⌝ }
 {
     let reply = Session::from_words(s).begin(key, nonce);
     session_handed_back(s, reply)
 }
 
 #[no_mangle]
-pub extern "C" fn ht_session_data(s: &mut [u64; 10], piece: &[u8]) -> HtAnswer
+pub extern "C" fn ht_session_begin_tag(
+    s: &mut [u64; 11],
+    key: &[u8],
+    nonce: &[u8],
+    taglen: usize,
+) -> HtAnswer
+    ensures { λ r. ⌜ SessionSeen (now (s .entry)) (machine.begin (now (key .entry)) (now (nonce .entry)) taglen) (now (s .exit)) r [] ⌝ }
+{
+    let reply = Session::from_words(s).begin_tag(key, nonce, taglen);
+    session_handed_back(s, reply)
+}
+
+#[no_mangle]
+pub extern "C" fn ht_session_data(s: &mut [u64; 11], piece: &[u8]) -> HtAnswer
     ensures { λ r. ⌜ SessionSeen (now (s .entry)) (machine.dataCall (now (piece .entry))) (now (s .exit)) r [] ⌝ }
 {
     let reply = Session::from_words(s).data(piece);
@@ -113,7 +155,7 @@ pub extern "C" fn ht_session_data(s: &mut [u64; 10], piece: &[u8]) -> HtAnswer
 }
 
 #[no_mangle]
-pub extern "C" fn ht_session_seal_text(s: &mut [u64; 10], piece: &[u8], out: &mut [u8]) -> HtAnswer
+pub extern "C" fn ht_session_seal_text(s: &mut [u64; 11], piece: &[u8], out: &mut [u8]) -> HtAnswer
     ensures { λ r. ⌜ SessionSeen (now (s .entry)) (machine.sealText (now (piece .entry)) (now (out .entry))) (now (s .exit)) r (now (out .exit)) ⌝ }
 {
     let reply = Session::from_words(s).seal_text(piece, out);
@@ -121,7 +163,7 @@ pub extern "C" fn ht_session_seal_text(s: &mut [u64; 10], piece: &[u8], out: &mu
 }
 
 #[no_mangle]
-pub extern "C" fn ht_session_seal_close(s: &mut [u64; 10], out: &mut [u8]) -> HtAnswer
+pub extern "C" fn ht_session_seal_close(s: &mut [u64; 11], out: &mut [u8]) -> HtAnswer
     ensures { λ r. ⌜ SessionSeen (now (s .entry)) (machine.sealClose (now (out .entry))) (now (s .exit)) r (now (out .exit)) ⌝ }
 {
     let reply = Session::from_words(s).seal_close(out);
@@ -129,7 +171,7 @@ pub extern "C" fn ht_session_seal_close(s: &mut [u64; 10], out: &mut [u8]) -> Ht
 }
 
 #[no_mangle]
-pub extern "C" fn ht_session_check_text(s: &mut [u64; 10], piece: &[u8]) -> HtAnswer
+pub extern "C" fn ht_session_check_text(s: &mut [u64; 11], piece: &[u8]) -> HtAnswer
     ensures { λ r. ⌜ SessionSeen (now (s .entry)) (machine.checkText (now (piece .entry))) (now (s .exit)) r [] ⌝ }
 {
     let reply = Session::from_words(s).check_text(piece);
@@ -137,7 +179,7 @@ pub extern "C" fn ht_session_check_text(s: &mut [u64; 10], piece: &[u8]) -> HtAn
 }
 
 #[no_mangle]
-pub extern "C" fn ht_session_check_close(s: &mut [u64; 10], tag: &[u8]) -> HtAnswer
+pub extern "C" fn ht_session_check_close(s: &mut [u64; 11], tag: &[u8]) -> HtAnswer
     ensures { λ r. ⌜ SessionSeen (now (s .entry)) (machine.checkClose (now (tag .entry))) (now (s .exit)) r [] ⌝ }
 {
     let reply = Session::from_words(s).check_close(tag);

@@ -7,11 +7,12 @@ use native.Mathlib.Omega.{arith}
 use lib.ListN.{length}
 use Rattle.acorn_model.specs.Bits.{Bits, _⊕_, bit, bitsIn, number, bytes}
 use Rattle.acorn_model.specs.Step.{run}
-use Rattle.acorn_model.specs.Stretches.{Stretch, paperTagLength, tagBits, zeros, start, dataPiece, dataEnd, textPiece, textEnd, final, inputs, through, keystream, textOut, tagOf, afterData, beforeFinal}
+use Rattle.acorn_model.specs.Stretches.{Stretch, fullTagLength, zeros, start, dataPiece, dataEnd, textPiece, textEnd, final, inputs, through, keystream, textOut, afterData, beforeFinal}
 use Rattle.acorn_model.specs.Paper.{ciphertext, tag}
 use Rattle.acorn_model.specs.Laws.{SameState}
 use Rattle.acorn_model.proofs.Numbers.{number-bit}
 use Rattle.acorn_model.proofs.Bytes.{bytes-same}
+use Rattle.acorn_model.proofs.Outputs.{tagBytes-last}
 use Rattle.acorn_model.proofs.States.{same-keystreamBit}
 use Rattle.acorn_model.proofs.Agree.{ciphertext-agrees, tag-agrees}
 use Rattle.known_answers.proofs.StepNumbers.{runN, runN-is, keystreamN, keystreamN-bit}
@@ -61,9 +62,10 @@ module _ (key nonce «data» text : List ℕ) where
       ∙ bytes-same (length text) (λ j. bitsIn text j ⊕ keystream (textPiece false text) (afterData key nonce «data») j) (λ j. bitsIn text j ⊕ bit textKeystreamN j)
       (λ j l. ap (λ (ks : Bool). bitsIn text j ⊕ ks) (keystream-is (textPiece false text) (8 * length text) j afterDataN (afterData key nonce «data») after-data l))
 
-  pub tag-computes : tag key nonce «data» text ≡ bytes paperTagLength (λ j. bit finalKeystreamN (768 - tagBits + j))
-  unfolding tagOf finalKeystreamN
+  pub tag-computes : tag key nonce «data» text ≡ bytes fullTagLength (λ j. bit finalKeystreamN (768 - 8 * fullTagLength + j))
+  unfolding finalKeystreamN
   tag-computes =
-      sym (tag-agrees key nonce «data» text)
-      ∙ bytes-same paperTagLength (λ j. keystream final (beforeFinal false text (afterData key nonce «data»)) (768 - tagBits + j)) (λ j. bit finalKeystreamN (768 - tagBits + j))
-      (λ j l. keystream-is final 768 (768 - tagBits + j) (throughN textEnd (throughN (textPiece false text) afterDataN)) (beforeFinal false text (afterData key nonce «data»)) before-final (omega arith))
+      sym (tag-agrees key nonce «data» fullTagLength (omega arith) text)
+      ∙ tagBytes-last fullTagLength (omega arith) (beforeFinal false text (afterData key nonce «data»))
+      ∙ bytes-same fullTagLength (λ j. keystream final (beforeFinal false text (afterData key nonce «data»)) (768 - 8 * fullTagLength + j)) (λ j. bit finalKeystreamN (768 - 8 * fullTagLength + j))
+      (λ j l. keystream-is final 768 (768 - 8 * fullTagLength + j) (throughN textEnd (throughN (textPiece false text) afterDataN)) (beforeFinal false text (afterData key nonce «data»)) before-final (omega arith))

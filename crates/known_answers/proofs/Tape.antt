@@ -9,7 +9,7 @@ use Rattle.acorn_model.specs.Bits.{bit, bitsIn, number, bytes}
 use Rattle.acorn_model.specs.Step.{_⊕=_and_, lfsrUpdate, maj, ch, ksg128, fbk128, keystreamBit, feedbackBit}
 use Rattle.acorn_model.specs.Stretches.{startBit}
 use Rattle.acorn_model.specs.Paper.{ciphertext, tag}
-use Rattle.acorn_model.specs.Message.{sealed}
+use Rattle.acorn_model.specs.Message.{sealedWith}
 use Rattle.tape_model.specs.Ticket.{ordered, valuesRule, ticketRule, net, packTicket, headRule, packHead}
 use Rattle.tape_model.specs.Tape.{nonceOf, packTickets, tapeOf, totalNet, openTape}
 use Rattle.tape_model.specs.Listing.{totalLine, listed, printed, exampleText}
@@ -38,7 +38,7 @@ unfolding afterDataN finalKeystreamN throughN runN keystreamN stepN joinAt lfsrU
 tag-given = tag-computes countedKey (nonceOf packedHead) packedHead packedTicket
 
 tape-given : tapeOf countedKey goodHead (goodTicket ∷ []) ≡ workedTape
-unfolding tapeOf sealed packHead packTicket packTickets
+unfolding tapeOf sealedWith packHead packTicket packTickets
 tape-given = ap₂ (λ (c t : List ℕ). packedHead ++ c ++ t) cipher-given tag-given
 
 laws : TapeLaws countedKey goodHead (goodTicket ∷ [])

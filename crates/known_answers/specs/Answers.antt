@@ -1,9 +1,11 @@
 -- Published answers of ACORN-128 version 3, and what it is for the paper's definitions to give them.
 use mathlib.Core.Path.{_≡_}
-use mathlib.Core.List.{List, [], _∷_}
-use Prim.Native.Nat.{ℕ}
-use lib.ListN.{replicate}
+use mathlib.Core.List.{List, [], _∷_, _++_}
+use Prim.Native.Nat.{ℕ, _-_, _≤_}
+use lib.ListN.{drop, replicate}
+use Rattle.acorn_model.specs.Stretches.{fullTagLength}
 use Rattle.acorn_model.specs.Paper.{ciphertext, tag}
+use Rattle.acorn_model.specs.Message.{sealedWith}
 
 pub record KnownAnswer : Type 0 where
   pub key : List ℕ
@@ -19,6 +21,14 @@ Given a = (ciphertext (a .key) (a .nonce) (a .«data») (a .text) ≡ a .cipher)
 abbrev pub AllGiven : List KnownAnswer → Type 0
 AllGiven [] = Unit {0}
 AllGiven (a ∷ others) = Given a × AllGiven others
+
+-- sealed with a tag of any length up to sixteen: the ciphertext, and the last bytes of the tag
+abbrev pub GivenShort : KnownAnswer → Type 0
+GivenShort a = (n : ℕ) → n ≤ fullTagLength → sealedWith n (a .key) (a .nonce) (a .«data») (a .text) ≡ a .cipher ++ drop (fullTagLength - n) (a .tag)
+
+abbrev pub AllGivenShort : List KnownAnswer → Type 0
+AllGivenShort [] = Unit {0}
+AllGivenShort (a ∷ others) = GivenShort a × AllGivenShort others
 
 abbrev pub sixteenZeros : List ℕ
 sixteenZeros = replicate 16 0

@@ -10,8 +10,8 @@ use borrow.Author.Tests.{le-leb}
 use Rattle.calls.specs.Calls.{writtenOver, sameBytes}
 use Rattle.calls.proofs.Writing.{written-length}
 use Rattle.acorn_model.specs.Bits.{Bits}
-use Rattle.acorn_model.specs.Stretches.{through, textEnd, tagOf, afterData}
-use Rattle.acorn_model.specs.Machine.{tagLength, keyAndNonceRight}
+use Rattle.acorn_model.specs.Stretches.{fullTagLength, through, textEnd, tagBytes, afterData}
+use Rattle.acorn_model.specs.Machine.{keyAndNonceRight}
 use Rattle.acorn_model.specs.Message.{cipherPart, tagPart, tagMatches, opened}
 use Rattle.acorn_model.proofs.Messages.{opened-length}
 use Rattle.acorn.specs.Runs.{TextRun}
@@ -24,34 +24,34 @@ module _ (key nonce «data» s buffer : List ℕ) where
   pub not-decrypted : decryptable key nonce s buffer ≡ false → DecryptsInto key nonce «data» s buffer false buffer
   not-decrypted e = record { answer = rw e; left = rw e }
 
-  module _ (key-and-nonce : keyAndNonceRight key nonce ≡ true) (tag-there : tagLength ≤ length s) (room : length s - tagLength ≤ length buffer)
-      (S S₁ : Bits) (mid : List ℕ) (good : Bool) (S-is : S ≡ afterData key nonce «data») (run : TextRun true S (cipherPart s) buffer S₁ mid)
-      (good-is : good ≡ sameBytes (take (length s - (length s - tagLength)) (tagPart s)) (tagOf (through textEnd S₁))) where
+  module _ (key-and-nonce : keyAndNonceRight key nonce ≡ true) (tag-there : fullTagLength ≤ length s) (room : length s - fullTagLength ≤ length buffer)
+      (S S₁ : Bits) (mid : List ℕ) (good : Bool) (S-is : S ≡ afterData key nonce «data») (run : TextRun true S (cipherPart fullTagLength s) buffer S₁ mid)
+      (good-is : good ≡ sameBytes (take (length s - (length s - fullTagLength)) (tagPart fullTagLength s)) (tagBytes fullTagLength (through textEnd S₁))) where
     abbrev n : ℕ
-    n = length s - tagLength
+    n = length s - fullTagLength
 
     sized : decryptable key nonce s buffer ≡ true
-    sized = rw (key-and-nonce, le-leb tagLength (length s) tag-there, le-leb n (length buffer) room)
+    sized = rw (key-and-nonce, le-leb fullTagLength (length s) tag-there, le-leb n (length buffer) room)
 
-    last : n + tagLength ≡ length s
+    last : n + fullTagLength ≡ length s
     last = omega (arith, tag-there)
 
-    within : n + tagLength ≤ length s
+    within : n + fullTagLength ≤ length s
     within = omega (arith, last)
 
     matches : good ≡ tagMatches key nonce «data» s
     matches =
         good-is
-        ∙ ap₂ (λ (l : List ℕ) (R : Bits). sameBytes l (tagOf (through textEnd R))) (all-left S s n within) (next-state S s n within buffer mid S₁ room run)
-        ∙ sym (tag-last S s n within last) ∙ all-matches key nonce «data» s S S-is
+        ∙ ap₂ (λ (l : List ℕ) (R : Bits). sameBytes l (tagBytes fullTagLength (through textEnd R))) (all-left S fullTagLength s n within) (next-state S fullTagLength s n within buffer mid S₁ room run)
+        ∙ sym (tag-last S fullTagLength s n within last) ∙ all-matches fullTagLength key nonce «data» s S S-is (omega arith)
 
     written : mid ≡ writtenOver (opened key nonce «data» s) buffer
     written =
-        text-output true S (cipherPart s) buffer S₁ mid (omega (arith, room, length-take-le n s (omega arith))) run
-        ∙ ap (λ (l : List ℕ). writtenOver l buffer) (all-text key nonce «data» s S S-is)
+        text-output true S (cipherPart fullTagLength s) buffer S₁ mid (omega (arith, room, length-take-le n s (omega arith))) run
+        ∙ ap (λ (l : List ℕ). writtenOver l buffer) (all-text fullTagLength key nonce «data» s S S-is)
 
     same-size : length mid ≡ length buffer
-    same-size = ap length written ∙ written-length (opened key nonce «data» s) buffer (omega (arith, room, opened-length key nonce «data» s))
+    same-size = ap length written ∙ written-length (opened key nonce «data» s) buffer (omega (arith, room, opened-length fullTagLength key nonce «data» s))
 
     pub decrypted-right : good ≡ true → DecryptsInto key nonce «data» s buffer good mid
     decrypted-right right = record { answer = rw (sized, ← matches); left = rw (sized, ← matches, right) written }

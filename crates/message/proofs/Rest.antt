@@ -1,4 +1,4 @@
--- Opening the rest of a message from its parts: a piece, and what is behind it.
+-- Opening the rest of a message from its parts: a piece, and what is behind it. The tag has any length.
 use mathlib.Core.Path.{_≡_, refl, sym, ap, ap₂, _∙_}
 use mathlib.Core.Bool.{Bool, true, false}
 use mathlib.Core.List.{List, [], _++_, append-assoc, append-nil}
@@ -11,9 +11,8 @@ use borrow.Author.Tests.{le-ltb}
 use borrow.Rule.Slice.PartMut.{putMid, put-same}
 use Rattle.acorn_model.specs.Bits.{Bits}
 use Rattle.calls.specs.Calls.{_if_else_, writtenOver, sameBytes}
-use Rattle.acorn_model.specs.Stretches.{through, textPiece, textEnd, textOut, tagOf}
+use Rattle.acorn_model.specs.Stretches.{through, textPiece, textEnd, textOut, tagBytes}
 use Rattle.acorn_model.specs.Message.{cipherPart, tagPart}
-use Rattle.acorn_model.specs.Machine.{tagLength}
 use Rattle.acorn_model.proofs.Pieces.{textPiece-none, textPiece-append, textOut-none, textOut-append}
 use Rattle.acorn_model.proofs.Outputs.{textOut-length}
 use Rattle.acorn.specs.Runs.{TextRun}
@@ -21,27 +20,27 @@ use Rattle.message.specs.Contracts.{restMatches, restOpened}
 
 -- ## The tag alone
 
-module _ (S : Bits) (s : List ℕ) (none-left : length s ≡ tagLength) where
-  no-cipher : cipherPart s ≡ []
+module _ (S : Bits) (tagLength : ℕ) (s : List ℕ) (none-left : length s ≡ tagLength) where
+  no-cipher : cipherPart tagLength s ≡ []
   no-cipher = let e : length s - tagLength ≡ 0 = omega (arith, none-left) in ap (λ (n : ℕ). take n s) e
 
-  pub tag-alone : restMatches S s ≡ sameBytes s (tagOf (through textEnd S))
+  pub tag-alone : restMatches S tagLength s ≡ sameBytes s (tagBytes tagLength (through textEnd S))
   unfolding restMatches
   tag-alone =
       let e : length s - tagLength ≡ 0 = omega (arith, none-left) in
-      ap₂ sameBytes (ap (λ (n : ℕ). drop n s) e) (ap (λ (l : List ℕ). tagOf (through textEnd (through (textPiece true l) S))) no-cipher ∙ ap (λ (R : Bits). tagOf (through textEnd R)) (textPiece-none true S))
+      ap₂ sameBytes (ap (λ (n : ℕ). drop n s) e) (ap (λ (l : List ℕ). tagBytes tagLength (through textEnd (through (textPiece true l) S))) no-cipher ∙ ap (λ (R : Bits). tagBytes tagLength (through textEnd R)) (textPiece-none true S))
 
-  pub nothing-written : (out : List ℕ) → restOpened S s out ≡ out
+  pub nothing-written : (out : List ℕ) → restOpened S tagLength s out ≡ out
   unfolding restOpened writtenOver
-  nothing-written out = kept (restMatches S s)
+  nothing-written out = kept (restMatches S tagLength s)
     where
-      kept : (b : Bool) → (textOut true (cipherPart s) S ++ drop (length (textOut true (cipherPart s) S)) out if b else out) ≡ out
+      kept : (b : Bool) → (textOut true (cipherPart tagLength s) S ++ drop (length (textOut true (cipherPart tagLength s) S)) out if b else out) ≡ out
       kept true = ap (λ (l : List ℕ). l ++ drop (length l) out) (ap (λ (l : List ℕ). textOut true l S) no-cipher ∙ textOut-none true S)
       kept false = refl
 
 -- ## A piece, and the rest behind it
 
-module _ (S : Bits) (s : List ℕ) (n : ℕ) (within : n + tagLength ≤ length s) where
+module _ (S : Bits) (tagLength : ℕ) (s : List ℕ) (n : ℕ) (within : n + tagLength ≤ length s) where
   abbrev piece : List ℕ
   piece = take n s
 
@@ -57,23 +56,23 @@ module _ (S : Bits) (s : List ℕ) (n : ℕ) (within : n + tagLength ≤ length 
   left : length behind - tagLength ≡ length s - tagLength - n
   left = omega (arith, length-drop n s)
 
-  cipher-parts : cipherPart s ≡ piece ++ cipherPart behind
+  cipher-parts : cipherPart tagLength s ≡ piece ++ cipherPart tagLength behind
   cipher-parts =
       let e : length s - tagLength ≡ n + (length behind - tagLength) = omega (arith, left) in
       ap (λ (k : ℕ). take k s) e ∙ take-add n (length behind - tagLength) s
 
-  tag-behind : tagPart s ≡ tagPart behind
+  tag-behind : tagPart tagLength s ≡ tagPart tagLength behind
   tag-behind =
       let e : length s - tagLength ≡ n + (length behind - tagLength) = omega (arith, left) in
       ap (λ (k : ℕ). drop k s) e ∙ sym (drop-drop (length behind - tagLength) n s)
 
-  pub matches-behind : restMatches S s ≡ restMatches next behind
+  pub matches-behind : restMatches S tagLength s ≡ restMatches next tagLength behind
   unfolding restMatches
   matches-behind =
-      ap₂ sameBytes tag-behind (ap (λ (R : Bits). tagOf (through textEnd R)) (ap (λ (l : List ℕ). through (textPiece true l) S) cipher-parts ∙ textPiece-append true piece (cipherPart behind) S))
+      ap₂ sameBytes tag-behind (ap (λ (R : Bits). tagBytes tagLength (through textEnd R)) (ap (λ (l : List ℕ). through (textPiece true l) S) cipher-parts ∙ textPiece-append true piece (cipherPart tagLength behind) S))
 
-  text-parts : textOut true (cipherPart s) S ≡ textOut true piece S ++ textOut true (cipherPart behind) next
-  text-parts = ap (λ (l : List ℕ). textOut true l S) cipher-parts ∙ textOut-append true piece (cipherPart behind) S
+  text-parts : textOut true (cipherPart tagLength s) S ≡ textOut true piece S ++ textOut true (cipherPart tagLength behind) next
+  text-parts = ap (λ (l : List ℕ). textOut true l S) cipher-parts ∙ textOut-append true piece (cipherPart tagLength behind) S
 
   piece-length : length piece ≡ n
   piece-length = length-take-le n s (omega arith)
@@ -111,13 +110,13 @@ module _ (S : Bits) (s : List ℕ) (n : ℕ) (within : n + tagLength ≤ length 
         ∙ ap₂ _++_ (part-is ∙ ap (λ (l : List ℕ). rest ++ drop (length rest) l) all-behind) none-after ∙ append-nil (rest ++ drop (length rest) (drop n out)))
         ∙ sym (append-assoc text rest (drop (length rest) (drop n out))) ∙ ap (λ (l : List ℕ). text ++ rest ++ l) (drop-drop (length rest) n out ∙ ap (λ (k : ℕ). drop k out) both)
 
-    pub handed-over : (good : Bool) (text mid out′ : List ℕ) → mid ≡ putMid n (length out - n) out part → good ≡ restMatches next behind → part ≡ restOpened next behind out-behind
-        → text ≡ textOut true piece S → out′ ≡ (writtenOver text mid if good else mid) → out′ ≡ restOpened S s out
+    pub handed-over : (good : Bool) (text mid out′ : List ℕ) → mid ≡ putMid n (length out - n) out part → good ≡ restMatches next tagLength behind → part ≡ restOpened next tagLength behind out-behind
+        → text ≡ textOut true piece S → out′ ≡ (writtenOver text mid if good else mid) → out′ ≡ restOpened S tagLength s out
     unfolding restOpened
     handed-over true text mid out′ mid-is matches part-is text-is out-is =
         out-is
-        ∙ ap (writtenOver text) mid-is ∙ joined text (textOut true (cipherPart behind) next) (ap length text-is ∙ textOut-length true piece S ∙ piece-length) (rw (← matches) at part-is)
-        ∙ ap (λ (l : List ℕ). writtenOver l out) (ap (λ (l : List ℕ). l ++ textOut true (cipherPart behind) next) text-is ∙ sym text-parts)
+        ∙ ap (writtenOver text) mid-is ∙ joined text (textOut true (cipherPart tagLength behind) next) (ap length text-is ∙ textOut-length true piece S ∙ piece-length) (rw (← matches) at part-is)
+        ∙ ap (λ (l : List ℕ). writtenOver l out) (ap (λ (l : List ℕ). l ++ textOut true (cipherPart tagLength behind) next) text-is ∙ sym text-parts)
         ∙ (rw (matches-behind, ← matches))
     handed-over false text mid out′ mid-is differs part-is text-is out-is =
         out-is ∙ mid-is ∙ ap (putMid n (length out - n) out) (rw (← differs) at part-is) ∙ put-same n (length out - n) out ∙ (rw (matches-behind, ← differs))
@@ -128,12 +127,12 @@ module _ (S : Bits) (s : List ℕ) (n : ℕ) (within : n + tagLength ≤ length 
     left-length : length s - tagLength ≡ n
     left-length = omega (arith, last)
 
-    pub tag-last : restMatches S s ≡ sameBytes behind (tagOf (through textEnd next))
+    pub tag-last : restMatches S tagLength s ≡ sameBytes behind (tagBytes tagLength (through textEnd next))
     unfolding restMatches
-    tag-last = ap (λ (k : ℕ). sameBytes (drop k s) (tagOf (through textEnd (through (textPiece true (take k s)) S)))) left-length
+    tag-last = ap (λ (k : ℕ). sameBytes (drop k s) (tagBytes tagLength (through textEnd (through (textPiece true (take k s)) S)))) left-length
 
-    pub last-handed-over : (good : Bool) (text out out′ : List ℕ) → good ≡ restMatches S s → text ≡ textOut true piece S → out′ ≡ (writtenOver text out if good else out) → out′ ≡ restOpened S s out
+    pub last-handed-over : (good : Bool) (text out out′ : List ℕ) → good ≡ restMatches S tagLength s → text ≡ textOut true piece S → out′ ≡ (writtenOver text out if good else out) → out′ ≡ restOpened S tagLength s out
     unfolding restOpened
     last-handed-over good text out out′ good-is text-is out-is =
-        let whole : textOut true (cipherPart s) S ≡ text = ap (λ (k : ℕ). textOut true (take k s) S) left-length ∙ sym text-is in
+        let whole : textOut true (cipherPart tagLength s) S ≡ text = ap (λ (k : ℕ). textOut true (take k s) S) left-length ∙ sym text-is in
         out-is ∙ ap₂ (λ (b : Bool) (l : List ℕ). writtenOver l out if b else out) good-is (sym whole)

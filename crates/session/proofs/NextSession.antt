@@ -12,21 +12,39 @@ use Rattle.acorn_model.specs.declared.Phase.{Phase}
 use Rattle.acorn_model.specs.declared.Phase.the-variants.{Text, Closed}
 use Rattle.acorn_model.specs.Bits.{Bits}
 use Rattle.calls.specs.Calls.{_if_else_, writtenOver}
-use Rattle.acorn_model.specs.Stretches.{through, zeros, dataEnd, textPiece, textEnd, final, textOut}
-use Rattle.acorn_model.specs.Machine.{Machine, withSteps, withState, withCounts, isSealing, isChecking, isData, runThrough, enter, cleared, countText, dataEnded, textTaken, textEnded, closed}
+use Rattle.acorn_model.specs.Stretches.{fullTagLength, through, zeros, dataEnd, textPiece, textEnd, final, textOut}
+use Rattle.acorn_model.specs.Machine.{Machine, withSteps, withState, withCounts, tagLengthRight, isSealing, isChecking, isData, runThrough, enter, cleared, countText, dataEnded, textTaken, textEnded, closed}
 use Rattle.acorn_kernel.specs.declared.State.{State}
 use Rattle.acorn_kernel.specs.Together.{stateOf}
 use Rattle.session.specs.declared.Session.{Session}
-use Rattle.session.specs.Contracts.{machineOf, wrapped, wrappedMachine, endedState, dataEndSteps}
+use Rattle.session.specs.Contracts.{lengthOf, machineOf, wrapped, wrappedMachine, endedState, dataEndSteps}
+
+-- a length that a tag may have stands for itself, and every other stands for one, too
+pub length-of : (n : ℕ) → tagLengthRight n ≡ true → lengthOf n ≡ n
+unfolding lengthOf
+length-of n h = rw h
+
+pub length-of-none : (n : ℕ) → tagLengthRight n ≡ false → lengthOf n ≡ fullTagLength
+unfolding lengthOf
+length-of-none n h = rw h
+
+pub length-of-right : (n : ℕ) → tagLengthRight (lengthOf n) ≡ true
+unfolding lengthOf
+length-of-right n = by (tagLengthRight n) refl
+  where
+    by : (b : Bool) → tagLengthRight n ≡ b → tagLengthRight (n if b else fullTagLength) ≡ true
+    by true e = e
+    by false e = refl
 
 -- field by field
-pub stands-for : (z : Session) (m : Machine) → z .kind ≡ m .kind → z .phase ≡ m .phase → stateOf (z .state) ≡ m .state
+pub stands-for : (z : Session) (m : Machine) → z .kind ≡ m .kind → z .phase ≡ m .phase → lengthOf (z .«tag_length») ≡ m .tagLength → stateOf (z .state) ≡ m .state
     → z .«data_bytes» ≡ m .counts .dataBytes → z .«text_bytes» ≡ m .counts .textBytes → z .steps ≡ wrapped (m .counts .steps)
     → machineOf z ≡ wrappedMachine m
 unfolding machineOf wrappedMachine
-stands-for z m kind phase state dataBytes textBytes steps = λ i. record {
+stands-for z m kind phase tagLength state dataBytes textBytes steps = λ i. record {
   kind = kind i;
   phase = phase i;
+  tagLength = tagLength i;
   state = state i;
   counts = record { dataBytes = dataBytes i; textBytes = textBytes i; steps = steps i };
 }
@@ -60,22 +78,22 @@ module _ (m : Machine) where
 
 module _ (s : Session) (state : State) (k n : ℕ) (e : k ≡ dataEndSteps (s .phase)) where
   pub text-session : (piece : List ℕ) → stateOf state ≡ textTaken piece (machineOf s) .state → n ≡ (s .steps + (k + 8 * length piece)) % 2 ^ 64
-      → machineOf (record { state = state; «data_bytes» = s .«data_bytes»; «text_bytes» = s .«text_bytes» + length piece; steps = n; kind = s .kind; phase = Text })
+      → machineOf (record { state = state; «data_bytes» = s .«data_bytes»; «text_bytes» = s .«text_bytes» + length piece; steps = n; kind = s .kind; phase = Text; «tag_length» = s .«tag_length» })
       ≡ wrappedMachine (textTaken piece (machineOf s))
   unfolding textTaken countText enter runThrough machineOf wrapped
   text-session piece h f =
-      stands-for _ (after (endedIf (machineOf s) (isData (s .phase)))) refl refl (h ∙ ap (λ (m : Machine). after m .state) (data-ended (machineOf s))) refl refl (omega arith)
+      stands-for _ (after (endedIf (machineOf s) (isData (s .phase)))) refl refl refl (h ∙ ap (λ (m : Machine). after m .state) (data-ended (machineOf s))) refl refl (omega arith)
       ∙ ap (λ (m : Machine). wrappedMachine (after m)) (sym (data-ended (machineOf s)))
     where
       after : Machine → Machine
       after m = enter Text (countText (length piece) (runThrough (textPiece (isChecking (s .kind)) piece) m))
 
   pub closed-session : stateOf state ≡ zeros → n ≡ (s .steps + (k + 1024)) % 2 ^ 64
-      → machineOf (record { state = state; «data_bytes» = s .«data_bytes»; «text_bytes» = s .«text_bytes»; steps = n; kind = s .kind; phase = Closed })
+      → machineOf (record { state = state; «data_bytes» = s .«data_bytes»; «text_bytes» = s .«text_bytes»; steps = n; kind = s .kind; phase = Closed; «tag_length» = s .«tag_length» })
       ≡ wrappedMachine (closed (machineOf s))
   unfolding closed textEnded cleared enter runThrough machineOf wrapped
   closed-session h f =
-      stands-for _ (after (endedIf (machineOf s) (isData (s .phase)))) refl refl h refl refl (omega arith)
+      stands-for _ (after (endedIf (machineOf s) (isData (s .phase)))) refl refl refl h refl refl (omega arith)
       ∙ ap (λ (m : Machine). wrappedMachine (after m)) (sym (data-ended (machineOf s)))
     where
       after : Machine → Machine

@@ -4,9 +4,9 @@ use mathlib.Core.Bool.{Bool, true, false}
 use mathlib.Core.List.{List, []}
 use Prim.Native.Nat.{ℕ, suc}
 use lib.ListN.{length}
-use Rattle.acorn_model.specs.Stretches.{tagOf}
+use Rattle.acorn_model.specs.Stretches.{tagBytes}
 use Rattle.calls.specs.Calls.{done, answerReply, writtenOver, sameBytes, unlessRefused, refusedWith}
-use Rattle.acorn_model.specs.Machine.{Machine, Call, checkClose, outputOf, phaseAllows, sizesRight, overLimit, outputShort, refusal, textEnded, closed, answered, wrote, verdict, work, call}
+use Rattle.acorn_model.specs.Machine.{Machine, Call, checkClose, outputOf, phaseAllows, fixesRight, sizesRight, overLimit, outputShort, refusal, textEnded, closed, answered, wrote, verdict, work, call}
 use Rattle.acorn_model.proofs.Refusals.{Passed, never-7, works}
 use Rattle.session.specs.declared.Session.{Session}
 use Rattle.session.specs.declared.Reply.{Reply as SessionReply}
@@ -28,19 +28,24 @@ module _ (s : Session) (c : Call) where
     unfolding refusal
     refused-1 reply a = refuses 0 (rw a) r reply
 
-    pub refused-2 : r ≡ refusedReply 2 s → phaseAllows (machineOf s .kind) (machineOf s .phase) c ≡ true → sizesRight c ≡ false → Called s c r (outputOf c)
+    pub refused-9 : r ≡ refusedReply 9 s → phaseAllows (machineOf s .kind) (machineOf s .phase) c ≡ true → fixesRight c ≡ false → Called s c r (outputOf c)
     unfolding refusal
-    refused-2 reply a z = refuses 1 (rw (a, z)) r reply
+    refused-9 reply a f = refuses 8 (rw (a, f)) r reply
 
-    pub refused-5 : r ≡ refusedReply 5 s → phaseAllows (machineOf s .kind) (machineOf s .phase) c ≡ true → sizesRight c ≡ true
-        → overLimit (machineOf s .counts) c ≡ true → Called s c r (outputOf c)
+    pub refused-2 : r ≡ refusedReply 2 s → phaseAllows (machineOf s .kind) (machineOf s .phase) c ≡ true → fixesRight c ≡ true
+        → sizesRight (machineOf s .tagLength) c ≡ false → Called s c r (outputOf c)
     unfolding refusal
-    refused-5 reply a z l = refuses 4 (rw (a, z, l)) r reply
+    refused-2 reply a f z = refuses 1 (rw (a, f, z)) r reply
 
-    pub refused-6 : r ≡ refusedReply 6 s → phaseAllows (machineOf s .kind) (machineOf s .phase) c ≡ true → sizesRight c ≡ true
-        → overLimit (machineOf s .counts) c ≡ false → outputShort c ≡ true → Called s c r (outputOf c)
+    pub refused-5 : r ≡ refusedReply 5 s → phaseAllows (machineOf s .kind) (machineOf s .phase) c ≡ true → fixesRight c ≡ true
+        → sizesRight (machineOf s .tagLength) c ≡ true → overLimit (machineOf s .counts) c ≡ true → Called s c r (outputOf c)
     unfolding refusal
-    refused-6 reply a z l o = refuses 5 (rw (a, z, l, o)) r reply
+    refused-5 reply a f z l = refuses 4 (rw (a, f, z, l)) r reply
+
+    pub refused-6 : r ≡ refusedReply 6 s → phaseAllows (machineOf s .kind) (machineOf s .phase) c ≡ true → fixesRight c ≡ true
+        → sizesRight (machineOf s .tagLength) c ≡ true → overLimit (machineOf s .counts) c ≡ false → outputShort (machineOf s .tagLength) c ≡ true → Called s c r (outputOf c)
+    unfolding refusal
+    refused-6 reply a f z l o = refuses 5 (rw (a, f, z, l, o)) r reply
 
 -- ## No number applies
 
@@ -61,14 +66,14 @@ module _ (s : Session) {c : Call} (p : Passed (machineOf s) c) where
 
 -- an accepted checking close led to the session z, and the tag is right or wrong
 module _ (s : Session) {tag : List ℕ} (p : Passed (machineOf s) (checkClose tag)) (z : Session) (led : machineOf z ≡ wrappedMachine (closed (machineOf s))) where
-  judges : (good : Bool) → good ≡ sameBytes tag (tagOf (textEnded (machineOf s) .state)) → (r : SessionReply) → sessionOutcome r [] ≡ judged good (machineOf z) → Called s (checkClose tag) r []
+  judges : (good : Bool) → good ≡ sameBytes tag (tagBytes (machineOf s .tagLength) (textEnded (machineOf s) .state)) → (r : SessionReply) → sessionOutcome r [] ≡ judged good (machineOf z) → Called s (checkClose tag) r []
   unfolding work
   judges good g r o = o ∙ ap₂ judged g led ∙ sym (judged-wrapped _ (closed (machineOf s))) ∙ worked s p
 
-  pub right-tag : true ≡ sameBytes tag (tagOf (textEnded (machineOf s) .state)) → (r : SessionReply) → r ≡ doneReply 0 z → Called s (checkClose tag) r []
+  pub right-tag : true ≡ sameBytes tag (tagBytes (machineOf s .tagLength) (textEnded (machineOf s) .state)) → (r : SessionReply) → r ≡ doneReply 0 z → Called s (checkClose tag) r []
   unfolding sessionOutcome answerReply verdict answered machineOf
   right-tag g r reply = judges true g r (ap (λ (x : SessionReply). sessionOutcome x []) reply)
 
-  pub wrong-tag : false ≡ sameBytes tag (tagOf (textEnded (machineOf s) .state)) → (r : SessionReply) → r ≡ refusedReply 7 z → Called s (checkClose tag) r []
+  pub wrong-tag : false ≡ sameBytes tag (tagBytes (machineOf s .tagLength) (textEnded (machineOf s) .state)) → (r : SessionReply) → r ≡ refusedReply 7 z → Called s (checkClose tag) r []
   unfolding sessionOutcome answerReply verdict
   wrong-tag g r reply = judges false g r (ap (λ (x : SessionReply). sessionOutcome x []) reply)

@@ -11,8 +11,8 @@ use borrow.Author.Tests.{ne-eqb}
 use lib.ListN.{length}
 use Rattle.acorn_model.specs.declared.Phase.the-variants.{Data, Text, Closed}
 use Rattle.calls.specs.Calls.{_if_else_, Work, unlessRefused, leftUnchanged, sameBytes, Outcome, refusedWith}
-use Rattle.acorn_model.specs.Stretches.{Stretch, through, start, dataPiece, dataEnd, textPiece, textEnd, final, textOut, tagOf}
-use Rattle.acorn_model.specs.Machine.{Machine, withSteps, withState, withCounts, Call, begin, dataCall, sealText, checkText, sealClose, checkClose, outputOf, isChecking, isData, phaseAllows, overLimit, refusal, runThrough, enter, cleared, countData, countText, begun, dataTaken, dataEnded, textTaken, textEnded, closed, answered, wrote, verdict, work, call}
+use Rattle.acorn_model.specs.Stretches.{Stretch, through, start, dataPiece, dataEnd, textPiece, textEnd, final, textOut, tagBytes}
+use Rattle.acorn_model.specs.Machine.{Machine, withTagLength, withSteps, withState, withCounts, Call, begin, dataCall, sealText, checkText, sealClose, checkClose, outputOf, isChecking, isData, phaseAllows, sizesRight, overLimit, outputShort, refusal, runThrough, enter, cleared, countData, countText, begun, dataTaken, dataEnded, textTaken, textEnded, closed, answered, wrote, verdict, work, call}
 use Rattle.session.specs.declared.Session.{Session}
 use Rattle.session.specs.declared.Reply.{Reply as SessionReply}
 use Rattle.session.specs.Contracts.{machineOf, sessionOutcome, wrapped, wrappedMachine, wrappedReply, wrappedOutcome, Called}
@@ -78,17 +78,17 @@ runs stretch a b e = λ i. withCounts (withSteps (steps i) (e i .counts)) (withS
 
 module _ (a b : Machine) (e : wrappedMachine a ≡ wrappedMachine b) where
   same-refusal : (c : Call) → refusal a c ≡ refusal b c
-  unfolding wrappedMachine refusal phaseAllows overLimit
-  same-refusal (begin key nonce) = ap (λ (m : Machine). refusal m (begin key nonce)) e
+  unfolding wrappedMachine refusal phaseAllows sizesRight overLimit outputShort
+  same-refusal (begin key nonce n) = ap (λ (m : Machine). refusal m (begin key nonce n)) e
   same-refusal (dataCall piece) = ap (λ (m : Machine). refusal m (dataCall piece)) e
   same-refusal (sealText piece out) = ap (λ (m : Machine). refusal m (sealText piece out)) e
   same-refusal (checkText piece) = ap (λ (m : Machine). refusal m (checkText piece)) e
   same-refusal (sealClose out) = ap (λ (m : Machine). refusal m (sealClose out)) e
   same-refusal (checkClose tag) = ap (λ (m : Machine). refusal m (checkClose tag)) e
 
-  same-begun : (key nonce : List ℕ) → wrappedMachine (begun key nonce a) ≡ wrappedMachine (begun key nonce b)
+  same-begun : (key nonce : List ℕ) (n : ℕ) → wrappedMachine (begun key nonce n a) ≡ wrappedMachine (begun key nonce n b)
   unfolding wrappedMachine begun cleared enter
-  same-begun key nonce = ap (enter Data) (runs (start key nonce) (cleared a) (cleared b) (ap cleared e))
+  same-begun key nonce n = ap (λ (m : Machine). withTagLength n (enter Data m)) (runs (start key nonce) (cleared a) (cleared b) (ap cleared e))
 
   same-data : (piece : List ℕ) → wrappedMachine (dataTaken piece a) ≡ wrappedMachine (dataTaken piece b)
   unfolding wrappedMachine dataTaken countData
@@ -117,13 +117,13 @@ module _ (a b : Machine) (e : wrappedMachine a ≡ wrappedMachine b) where
   unfolding wrappedMachine closed cleared enter
   same-closed = ap (λ (m : Machine). enter Closed (cleared m)) (runs final (textEnded a) (textEnded b) same-textEnded)
 
-  same-tag : tagOf (textEnded a .state) ≡ tagOf (textEnded b .state)
+  same-tag : tagBytes (a .tagLength) (textEnded a .state) ≡ tagBytes (b .tagLength) (textEnded b .state)
   unfolding wrappedMachine
-  same-tag = ap (λ (m : Machine). tagOf (m .state)) same-textEnded
+  same-tag = ap₂ (λ (m t : Machine). tagBytes (m .tagLength) (t .state)) e same-textEnded
 
   same-work : (c : Call) → allWrapped (work a c) ≡ allWrapped (work b c)
   unfolding work wrappedMachine
-  same-work (begin key nonce) = wrote-same _ _ [] _ _ refl (same-begun key nonce)
+  same-work (begin key nonce n) = wrote-same _ _ [] _ _ refl (same-begun key nonce n)
   same-work (dataCall piece) = wrote-same _ _ [] _ _ refl (same-data piece)
   same-work (sealText piece out) = wrote-same _ _ out _ _ (ap (λ (m : Machine). textOut false piece (m .state)) same-ended) (same-text piece)
   same-work (checkText piece) = wrote-same _ _ [] _ _ refl (same-text piece)
@@ -159,7 +159,7 @@ wrote-within written out m h = wrote-all written out m ∙ ap (λ (x : Machine).
 
 work-within : (m : Machine) (c : Call) → work m c .next .counts .steps < 2 ^ 64 → allWrapped (work m c) ≡ work m c
 unfolding work wrote
-work-within m (begin key nonce) h = wrote-within _ [] _ h
+work-within m (begin key nonce n) h = wrote-within _ [] _ h
 work-within m (dataCall piece) h = wrote-within _ [] _ h
 work-within m (sealText piece out) h = wrote-within _ out _ h
 work-within m (checkText piece) h = wrote-within _ [] _ h

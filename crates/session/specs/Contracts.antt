@@ -6,12 +6,16 @@ use Rattle.acorn_model.specs.declared.Phase.{Phase}
 use Rattle.calls.specs.declared.Answer.the-variants.{Refused, Done}
 use Rattle.acorn_model.specs.Bits.{Bits}
 use Rattle.calls.specs.Calls.{_if_else_, Reply, refused, done, Work, leftUnchanged, Outcome, answerReply}
-use Rattle.acorn_model.specs.Stretches.{through, dataEnd}
-use Rattle.acorn_model.specs.Machine.{Machine, withSteps, withCounts, Call, isData, textTaken, call}
+use Rattle.acorn_model.specs.Stretches.{fullTagLength, through, dataEnd}
+use Rattle.acorn_model.specs.Machine.{Machine, withSteps, withCounts, Call, tagLengthRight, isData, textTaken, call}
 use Rattle.acorn_kernel.specs.declared.State.{State}
 use Rattle.acorn_kernel.specs.Together.{stateOf}
 use Rattle.session.specs.declared.Session.{Session}
 use Rattle.session.specs.declared.Reply.{Reply as SessionReply}
+
+-- the tag's length that a number stands for: itself from 8 to 16, and any other number stands for sixteen
+unfoldable pub lengthOf : ℕ → ℕ
+lengthOf n = n if tagLengthRight n else fullTagLength
 
 -- the machine that a session stands for: every value of the struct stands for one
 unfoldable pub machineOf : Session → Machine
@@ -19,6 +23,7 @@ machineOf s =
     record {
       kind = s .kind;
       phase = s .phase;
+      tagLength = lengthOf (s .«tag_length»);
       state = stateOf (s .state);
       counts = record { dataBytes = s .«data_bytes»; textBytes = s .«text_bytes»; steps = s .steps };
     }

@@ -1,7 +1,7 @@
--- A session in ten words, for callers that cannot hold the struct. Any ten words stand for a session.
+-- A session in eleven words, for callers that cannot hold the struct. Any eleven words stand for a session.
 use mathlib.Core.Bool.{_||_}
-use mathlib.Core.List.{List, [], _∷_}
-use Prim.Native.Nat.{ℕ, _+_, _*_, _^_}
+use mathlib.Core.List.{List, [], _∷_, _++_}
+use Prim.Native.Nat.{ℕ, _+_, _*_, _%_, _^_}
 use lib.Dec.{eqb, ltb}
 use lib.ListN.{getD}
 use Rattle.acorn_model.specs.declared.Kind.{Kind}
@@ -37,11 +37,11 @@ phaseIn n =
     Text if eqb n 2 || eqb n 6 else
     Closed
 
--- ## The ten words
+-- ## The eleven words
 
 -- the state's six, the bytes of data and of text, the steps, the number of kind and phase
-unfoldable pub wordsOf : Session → List ℕ
-wordsOf s =
+unfoldable pub firstTen : Session → List ℕ
+firstTen s =
     s .state .w0
     ∷ s .state .w1
     ∷ s .state .w2
@@ -53,6 +53,10 @@ wordsOf s =
     ∷ s .steps
     ∷ kindPhaseNumber (s .kind) (s .phase)
     ∷ []
+
+-- and the tag's length
+unfoldable pub wordsOf : Session → List ℕ
+wordsOf s = firstTen s ++ (s .«tag_length» ∷ [])
 
 unfoldable pub sessionIn : List ℕ → Session
 sessionIn words =
@@ -70,9 +74,10 @@ sessionIn words =
       steps = getD words 8 0;
       kind = kindIn (getD words 9 0);
       phase = phaseIn (getD words 9 0);
+      «tag_length» = getD words 10 0 % 256;
     }
 
--- the machine that ten words stand for
+-- the machine that eleven words stand for
 unfoldable pub machineIn : List ℕ → Machine
 machineIn words = machineOf (sessionIn words)
 
@@ -99,8 +104,9 @@ sessionFor m =
       steps = m .counts .steps;
       kind = m .kind;
       phase = m .phase;
+      «tag_length» = m .tagLength;
     }
 
--- the ten words that are stored for a machine
+-- the eleven words that are stored for a machine
 unfoldable pub wordsFor : Machine → List ℕ
 wordsFor m = wordsOf (sessionFor m)

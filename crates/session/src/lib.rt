@@ -6,9 +6,10 @@ mod words;
 
 use acorn::State;
 use acorn::absorb_data;
+use acorn::is_tag_bytes;
 use acorn::start;
-use acorn::tag as tag_of;
-use acorn::write_tag;
+use acorn::tag_length_right;
+use acorn::write_tag_bytes;
 use acorn::zeros;
 use acorn_model::CLOSE_STEPS;
 use acorn_model::KEY_LENGTH;
@@ -18,7 +19,6 @@ use acorn_model::Phase;
 use acorn_model::START_STEPS;
 use acorn_model::TAG_LENGTH;
 use calls::Answer;
-use compare::same_bytes;
 use phase_runs::ciphertext_taken;
 use phase_runs::data_end_steps;
 use phase_runs::data_ended;
@@ -35,6 +35,7 @@ ghost use mathlib.Core.Path.{_≡_};
 ghost use mathlib.Core.List.{[]};
 ghost use Prim.Native.Nat.{_+_, _≤_};
 ghost use lib.ListN.{length};
+ghost use Rattle.acorn_model.specs.Stretches.{fullTagLength};
 ghost use Rattle.acorn_model.specs.Machine as machine;
 ghost use Rattle.session.specs.Contracts.{machineOf, wrappedMachine, Called, refusedReply, doneReply, TextTaken};
 
@@ -45,6 +46,7 @@ pub struct Session {
     steps: u64,
     phase: Phase,
     kind: Kind,
+    tag_length: u8,
 }
 
 // What a call answered, and the session after it.
@@ -65,6 +67,7 @@ impl Session {
             steps: 0,
             kind,
             phase: Phase::Fresh,
+            tag_length: TAG_LENGTH as u8,
         }
     }
 
@@ -96,27 +99,47 @@ impl Session {
         }
     }
 
-    // Start runs, with a key and a nonce of 16 bytes.
-    pub fn begin(self, key: &[u8], nonce: &[u8]) -> Reply
-        ensures { λ r. ⌜ Called self (machine.begin (now (key .entry)) (now (nonce .entry))) r [] ⌝ }
+    // The bytes of the tag that the close writes or is given.
+    fn fixed_length(self) -> usize
+        ensures { λ r. ⌜ r ≡ machineOf self .tagLength ⌝ }
+    {
+        let n = self.tag_length as usize;
+        if tag_length_right(n) { n } else { TAG_LENGTH }
+    }
+
+    // Start runs, with a key and a nonce of 16 bytes; the tag has so many bytes, 8 to 16.
+    pub fn begin_tag(self, key: &[u8], nonce: &[u8], tag_length: usize) -> Reply
+        ensures { λ r. ⌜ Called self (machine.begin (now (key .entry)) (now (nonce .entry)) «tag_length») r [] ⌝ }
     {
         let phase = self.phase;
         let sized = (key.len() == KEY_LENGTH) & (nonce.len() == NONCE_LENGTH);
         if !is_fresh(phase) {
             return self.refused(1);
         }
+        if !tag_length_right(tag_length) {
+            return self.refused(9);
+        }
         if !sized {
             return self.refused(2);
         }
         let started = start(key, nonce);
         let steps = wrapping_add_u64(self.steps, START_STEPS);
+        let fixed = tag_length as u8;
         let begun = Session {
             state: started,
             steps,
             phase: Phase::Data,
+            tag_length: fixed,
             ..self
         };
         begun.done(0)
+    }
+
+    // The same, with a tag of 16 bytes.
+    pub fn begin(self, key: &[u8], nonce: &[u8]) -> Reply
+        ensures { λ r. ⌜ Called self (machine.begin (now (key .entry)) (now (nonce .entry)) fullTagLength) r [] ⌝ }
+    {
+        self.begin_tag(key, nonce, TAG_LENGTH)
     }
 
     // A piece of data goes into the state.
@@ -258,13 +281,14 @@ impl Session {
         if !allowed {
             return self.refused(1);
         }
-        if out.len() < TAG_LENGTH {
+        let n = self.fixed_length();
+        if out.len() < n {
             return self.refused(6);
         }
         let held = self.state;
-        write_tag(text_ended(phase, held), out);
+        write_tag_bytes(text_ended(phase, held), n, out);
         let closed = self.closed();
-        closed.done(TAG_LENGTH)
+        closed.done(n)
     }
 
     // A checking session is given a tag, and answers good or 7.
@@ -276,12 +300,12 @@ impl Session {
         if !(is_checking(kind) & takes_text(phase)) {
             return self.refused(1);
         }
-        if tag.len() != TAG_LENGTH {
+        let n = self.fixed_length();
+        if tag.len() != n {
             return self.refused(2);
         }
         let held = self.state;
-        let expected = tag_of(text_ended(phase, held));
-        let good = same_bytes(tag, &expected);
+        let good = is_tag_bytes(text_ended(phase, held), n, tag);
         let closed = self.closed();
         if good {
             closed.done(0)

@@ -1,4 +1,4 @@
-// A session in ten words, for callers that cannot hold the struct. Any ten words are read as some session.
+// A session in eleven words, for callers that cannot hold the struct. Any eleven words are read as some session.
 use super::Session;
 use acorn::State;
 use acorn_model::Kind;
@@ -49,8 +49,8 @@ fn phase_in(n: u64) -> Phase
 }
 
 impl Session {
-    // The session that ten words hold.
-    pub fn from_words(words: &[u64; 10]) -> Session
+    // The session that eleven words hold.
+    pub fn from_words(words: &[u64; 11]) -> Session
         ensures { λ r. ⌜ r ≡ sessionIn (now (words .entry)) ⌝ }
     {
         Session {
@@ -67,16 +67,19 @@ impl Session {
             steps: words[8],
             kind: kind_in(words[9]),
             phase: phase_in(words[9]),
+            tag_length: (words[10] % 256) as u8,
         }
     }
 
-    // The words of a session. What stands below a word's own bits is left out, so that the words follow from the machine.
-    pub fn words(self) -> [u64; 10]
+    // The words of a session. What stands below a word's own bits is left out, so that the words follow from the machine; and so is a length that no tag
+    // has.
+    pub fn words(self) -> [u64; 11]
         ensures { λ r. ⌜ r ≡ wordsFor (machineOf self) ⌝ }
     {
         let s = self.state;
         let kind = self.kind;
         let phase = self.phase;
+        let n = self.fixed_length() as u64;
         [
             s.w0 - s.w0 % 0x8,
             s.w1 - s.w1 % 0x4_0000,
@@ -88,6 +91,7 @@ impl Session {
             self.text_bytes,
             self.steps,
             number(kind, phase),
+            n,
         ]
     }
 }

@@ -9,7 +9,8 @@ use lib.Seq.{getD-drop}
 use Rattle.calls.specs.Calls.{AreBytes, Reply, refused, done, accepted, writtenOver, isRefused}
 use Rattle.calls.proofs.AreBytes.{take-are-bytes}
 use Rattle.acorn_model.specs.Paper.{decrypted}
-use Rattle.acorn_model.specs.Message.{sealed, opened}
+use Rattle.acorn_model.specs.Stretches.{fullTagLength}
+use Rattle.acorn_model.specs.Message.{sealed, openedWith}
 use Rattle.acorn_model.proofs.Bytes.{bytes-are-bytes}
 use Rattle.acorn_model.proofs.Proved.{opening-exact}
 use Rattle.tape_model.specs.declared.Ticket.{Ticket}
@@ -60,7 +61,7 @@ module _ (key tape out : List ℕ) (totals : Totals) (after : List ℕ) (bytes :
   count = unpacked-count (ticketCount tape) (plainBytes key tape) tickets unpacked
 
   plain-are-bytes : AreBytes (plainBytes key tape)
-  unfolding plainBytes opened decrypted
+  unfolding plainBytes openedWith decrypted
   plain-are-bytes = bytes-are-bytes _ _
 
   repacked : Valid tickets × (packTickets tickets ≡ plainBytes key tape)
@@ -70,7 +71,7 @@ module _ (key tape out : List ℕ) (totals : Totals) (after : List ℕ) (bytes :
   sealed-again : sealedBytes tape ≡ sealed key (nonceOf (headBytes tape)) (headBytes tape) (plainBytes key tape)
   unfolding plainBytes
   sealed-again =
-      opening-exact key (nonceOf (headBytes tape)) (headBytes tape) .whole (sealedBytes tape) (plainBytes key tape) (drop-are-bytes headLength tape bytes) plain-are-bytes .0
+      opening-exact fullTagLength key (nonceOf (headBytes tape)) (headBytes tape) (omega arith) .whole (sealedBytes tape) (plainBytes key tape) (drop-are-bytes headLength tape bytes) plain-are-bytes .0
       (tag-matches key tape out no-number, refl)
 
   tape-of : (head : Head) → packHead head ≡ headBytes tape → tape ≡ tapeOf key head tickets

@@ -10,6 +10,7 @@ use lib.Seq.{take-at}
 use borrow.Author.Tests.{eqb-true, leb-true, ltb-false, eq-eqb, le-leb, not-false}
 use Rattle.calls.specs.Calls.{_if_else_, done, writtenOver, isRefused}
 use Rattle.acorn_model.specs.Machine.{keyLength}
+use Rattle.acorn_model.specs.Stretches.{fullTagLength}
 use Rattle.acorn_model.specs.Message.{tagMatches}
 use Rattle.calls.proofs.Choices.{both}
 use Rattle.acorn_model.proofs.Messages.{opened-length}
@@ -82,7 +83,7 @@ module _ (key tape out : List ℕ) (accepted : openTapeRefusal key tape out ≡ 
   pub plain-length : length (plainBytes key tape) ≡ ticketLength * ticketCount tape
   unfolding plainBytes
   plain-length =
-      opened-length key (nonceOf (headBytes tape)) (headBytes tape) (sealedBytes tape)
+      opened-length fullTagLength key (nonceOf (headBytes tape)) (headBytes tape) (sealedBytes tape)
       ∙ omega (arith, length-drop headLength tape, text-length (length tape) size)
 
   pub plain-count : length (plainBytes key tape) / ticketLength ≡ ticketCount tape

@@ -9,10 +9,11 @@ use lib.ListN.{length, length-append}
 use lib.Seq.{take-at, drop-at}
 use borrow.Author.Tests.{leb-true, le-leb, le-ltb, eq-eqb, ne-eqb}
 use Rattle.calls.specs.Calls.{AreBytes, _if_else_, refused, accepted, unlessRefused, sameBytes, refusedWith, resultOf, isRefused}
-use Rattle.acorn_model.specs.Paper.{ciphertext, tag, newTag}
+use Rattle.acorn_model.specs.Paper.{ciphertext, tagOfLength, newTagOfLength}
 use Rattle.calls.specs.Lists.{handedOn}
-use Rattle.acorn_model.specs.Machine.{tagLength, fresh, phaseAllows, sizesRight, overLimit, outputShort, refusal, keyLength, runThrough, enter, cleared, countData, begun, dataTaken, textTaken, answered, wrote, work, call}
-use Rattle.acorn_model.specs.Message.{cipherPart, tagPart, sealed, sealRefusal, sealMessage, tagMatches, opened, openMessage}
+use Rattle.acorn_model.specs.Stretches.{fullTagLength}
+use Rattle.acorn_model.specs.Machine.{leastTagLength, fresh, phaseAllows, fixesRight, sizesRight, overLimit, outputShort, refusal, keyLength, runThrough, enter, cleared, countData, begun, dataTaken, textTaken, answered, wrote, work, call}
+use Rattle.acorn_model.specs.Message.{cipherPart, tagPart, sealedWith, sealed, sealRefusal, sealMessage, tagMatchesWith, tagMatches, opened, openMessage}
 use Rattle.acorn_model.specs.Laws.{WithinLimits}
 use Rattle.acorn_model.proofs.Outputs.{tag-length, sealed-length}
 use Rattle.acorn_model.proofs.Messages.{open-passed}
@@ -30,11 +31,11 @@ use Rattle.tape_model.proofs.Tapes.{tickets-length, tickets-bytes, leng
 -- ## The table
 
 table : AllGive rows
-unfolding unlessRefused refusedWith handedOn fresh phaseAllows sizesRight overLimit outputShort refusal call work wrote answered
+unfolding unlessRefused refusedWith handedOn fresh phaseAllows fixesRight sizesRight overLimit outputShort refusal call work wrote answered
     runThrough enter cleared countData begun dataTaken textTaken resultOf sealRefusal sealMessage
     plain.writerCall plain.refusal plain.phaseAllows plain.keyRight plain.headRight plain.ticketRight plain.tapeFull plain.outputShort
     ordered valuesRule ticketRule unpackTicket headRule unpackHead isTicketsLength isTapeLength openTape openTapeRefusal readerOver readNext handedOut
-table = (refl, (refl, (refl, (refl, (refl, (refl, (refl, (refl, tt))))))))
+table = (refl, (refl, (refl, (refl, (refl, (refl, (refl, (refl, (refl, (refl, tt))))))))))
 
 -- ## A last bit turned
 
@@ -66,37 +67,39 @@ turned-append (x ∷ y ∷ l) k h = ap (_∷_ x) (turned-append (y ∷ l) k h)
 
 -- ## Messages
 
-module _ (key nonce «data» text : List ℕ) (b : AreBytes text) where
+module _ (tagLength : ℕ) (least : leastTagLength ≤ tagLength) (most : tagLength ≤ fullTagLength) (key nonce «data» text : List ℕ) (b : AreBytes text) where
   abbrev c : List ℕ
   c = ciphertext key nonce «data» text
 
   abbrev T : List ℕ
-  T = tag key nonce «data» text
+  T = tagOfLength tagLength key nonce «data» text
 
   abbrev turned : List ℕ
-  turned = lastBitTurned (sealed key nonce «data» text)
+  turned = lastBitTurned (sealedWith tagLength key nonce «data» text)
 
   parts : turned ≡ c ++ lastBitTurned T
-  unfolding sealed
-  parts = turned-append c T (omega (arith, tag-length key nonce «data» text))
+  unfolding sealedWith
+  parts = turned-append c T (omega (arith, tag-length key nonce «data» tagLength text))
 
   size : length turned ≡ length text + tagLength
-  size = turned-length (sealed key nonce «data» text) ∙ sealed-length key nonce «data» text
+  size = turned-length (sealedWith tagLength key nonce «data» text) ∙ sealed-length key nonce «data» tagLength text
 
-  no-match : tagMatches key nonce «data» turned ≡ false
-  unfolding tagMatches
+  no-match : tagMatchesWith tagLength key nonce «data» turned ≡ false
+  unfolding tagMatchesWith
   no-match =
       let T′ : List ℕ = lastBitTurned T in
-      let n : length c ≡ length (c ++ T′) - tagLength = simp length-append (omega (arith, turned-length T, tag-length key nonce «data» text)) in
-      let own : newTag key nonce «data» c ≡ T = opening-exact key nonce «data» .with-tag text T b .1 refl .verifies in
-      ap (λ (w : List ℕ). sameBytes (tagPart w) (newTag key nonce «data» (cipherPart w))) parts
-      ∙ ap₂ (λ (t d : List ℕ). sameBytes t (newTag key nonce «data» d)) (drop-at c T′ _ n) (take-at c T′ _ n)
-      ∙ ap (sameBytes T′) own ∙ differs T (omega (arith, tag-length key nonce «data» text))
+      let n : length c ≡ length (c ++ T′) - tagLength = simp length-append (omega (arith, turned-length T, tag-length key nonce «data» tagLength text)) in
+      let own : newTagOfLength tagLength key nonce «data» c ≡ T = opening-exact tagLength key nonce «data» most .with-tag text T b .1 refl .verifies in
+      ap (λ (w : List ℕ). sameBytes (tagPart tagLength w) (newTagOfLength tagLength key nonce «data» (cipherPart tagLength w))) parts
+      ∙ ap₂ (λ (t d : List ℕ). sameBytes t (newTagOfLength tagLength key nonce «data» d)) (drop-at c T′ _ n) (take-at c T′ _ n)
+      ∙ ap (sameBytes T′) own ∙ differs T (omega (arith, tag-length key nonce «data» tagLength text))
 
-  message-tag : (out : List ℕ) → WithinLimits key nonce «data» text → length text ≤ length out → openMessage key nonce «data» turned out .answer ≡ refused 7
+  message-tag : (out : List ℕ) → WithinLimits tagLength key nonce «data» text → length text ≤ length out → openMessage tagLength key nonce «data» turned out .answer ≡ refused 7
   unfolding openMessage resultOf unlessRefused
   message-tag out w room =
-      let e = open-passed key nonce «data» turned out (record {
+      let e = open-passed tagLength key nonce «data» turned out (record {
+        tag-least = least;
+        tag-most = most;
         key-size = w .key-size;
         nonce-size = w .nonce-size;
         data-limit = w .data-limit;
@@ -116,7 +119,7 @@ module _ (key : List ℕ) (head : Head) (k : length key ≡ keyLength) (h : head
   abbrev H : List ℕ
   H = packHead head
 
-  module _ (S : List ℕ) (n : ℕ) (long : length S ≡ tagLength + ticketLength * n) (few : n ≤ ticketLimit) (out : List ℕ) (room : ticketLength * n ≤ length out) where
+  module _ (S : List ℕ) (n : ℕ) (long : length S ≡ fullTagLength + ticketLength * n) (few : n ≤ ticketLimit) (out : List ℕ) (room : ticketLength * n ≤ length out) where
     abbrev behind : List ℕ
     behind = H ++ S
 
@@ -154,15 +157,15 @@ module _ (key : List ℕ) (head : Head) (k : length key ≡ keyLength) (h : head
   unfolding tapeOf
   tape-tag ts out few room =
       let text : List ℕ = packTickets ts in
-      let long : length (sealed key (nonceOf H) H text) ≡ tagLength + ticketLength * length ts = omega (arith, sealed-length key (nonceOf H) H text, tickets-length ts) in
+      let long : length (sealed key (nonceOf H) H text) ≡ fullTagLength + ticketLength * length ts = omega (arith, sealed-length key (nonceOf H) H fullTagLength text, tickets-length ts) in
       ap (λ (t : List ℕ). openTape key t out .answer) (turned-append H (sealed key (nonceOf H) H text) (omega arith))
-      ∙ answer-7 (turned key (nonceOf H) H text (tickets-bytes ts)) (length ts) (omega (arith, turned-length (sealed key (nonceOf H) H text))) few out room
-      (no-match key (nonceOf H) H text (tickets-bytes ts))
+      ∙ answer-7 (turned fullTagLength (omega arith) (omega arith) key (nonceOf H) H text (tickets-bytes ts)) (length ts) (omega (arith, turned-length (sealed key (nonceOf H) H text))) few out room
+      (no-match fullTagLength (omega arith) (omega arith) key (nonceOf H) H text (tickets-bytes ts))
 
 pub refusal-examples : RefusalExamples
 refusal-examples =
     record {
       table = table;
-      message-tag = λ key nonce d text out b. message-tag key nonce d text b out;
+      message-tag = λ n key nonce d text out b w. message-tag n (w .tag-least) (w .tag-most) key nonce d text b out w;
       tape-tag = λ key head ts out k h. tape-tag key head k h ts out;
     }

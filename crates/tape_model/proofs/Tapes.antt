@@ -10,6 +10,7 @@ use lib.Seq.{take-at, drop-at, drop-drop}
 use borrow.Author.Tests.{le-leb, lt-leb, le-ltb, eq-eqb}
 use Rattle.calls.specs.Calls.{AreBytes, _if_else_, refused, Reply, done, mapReply, accepted, unlessRefused, writtenOver, resultOf, isRefused}
 use Rattle.acorn_model.specs.Machine.{keyLength, nonceLength}
+use Rattle.acorn_model.specs.Stretches.{fullTagLength}
 use Rattle.acorn_model.specs.Message.{sealed, tagMatches, opened}
 use Rattle.calls.proofs.AreBytes.{append-are-bytes}
 use Rattle.acorn_model.proofs.Outputs.{sealed-length, sealed-are-bytes}
@@ -135,7 +136,7 @@ module _ (key : List ℕ) (head : Head) (text : List ℕ) where
   nonce = nonceOf (packHead head)
 
   text-size : length withText ≡ 25 + length text
-  text-size = omega (arith, length-append (packHead head) (sealed key nonce (packHead head) text), head-length head, sealed-length key nonce (packHead head) text)
+  text-size = omega (arith, length-append (packHead head) (sealed key nonce (packHead head) text), head-length head, sealed-length key nonce (packHead head) fullTagLength text)
 
   head-part : headBytes withText ≡ packHead head
   head-part = take-at (packHead head) (sealed key nonce (packHead head) text) headLength (head-length head)
@@ -154,7 +155,7 @@ module _ (key : List ℕ) (head : Head) (text : List ℕ) where
 
   module _ (bytes : AreBytes text) where
     both : (tagMatches key nonce (packHead head) (sealed key nonce (packHead head) text) ≡ true) × (opened key nonce (packHead head) (sealed key nonce (packHead head) text) ≡ text)
-    both = opening-exact key nonce (packHead head) .whole (sealed key nonce (packHead head) text) text (sealed-are-bytes key nonce (packHead head) text) bytes .1 refl
+    both = opening-exact fullTagLength key nonce (packHead head) (omega arith) .whole (sealed key nonce (packHead head) text) text (sealed-are-bytes key nonce (packHead head) fullTagLength text) bytes .1 refl
 
     text-matches : tagMatches key (nonceOf (headBytes withText)) (headBytes withText) (sealedBytes withText) ≡ true
     text-matches = ap₂ (λ (a b : List ℕ). tagMatches key (nonceOf a) a b) head-part sealed-part ∙ both .0

@@ -6,11 +6,12 @@ use Prim.Native.Nat.{ℕ, _+_, _-_, _*_, _≤_}
 use lib.Dec.{leb}
 use lib.ListN.{length}
 use Rattle.acorn_model.specs.declared.Kind.{Kind}
-use Rattle.acorn_model.specs.declared.Kind.the-variants.{Sealing}
+use Rattle.acorn_model.specs.declared.Kind.the-variants.{Sealing, Checking}
 use Rattle.calls.specs.Calls.{AreBytes, _if_else_, Reply, refused, done, accepted}
 use Rattle.calls.specs.Lists.{handedOn}
-use Rattle.acorn_model.specs.Machine.{fresh, Call, begin, dataCall, sealText, sealClose, keyLength, call}
-use Rattle.acorn_model.specs.Message.{sealed, sealMessage, openMessage}
+use Rattle.acorn_model.specs.Stretches.{fullTagLength}
+use Rattle.acorn_model.specs.Machine.{fresh, Call, begin, dataCall, sealText, sealClose, checkClose, keyLength, call}
+use Rattle.acorn_model.specs.Message.{sealedWith, sealMessage, openMessage}
 use Rattle.acorn_model.specs.RefusalCases.{string}
 use Rattle.acorn_model.specs.Laws.{WithinLimits}
 use Rattle.tape_model.specs.declared.Ticket.{Ticket}
@@ -44,7 +45,7 @@ numberIn (done a) = accepted
 abbrev pub numberOf : Attempt → ℕ
 numberOf (machine kind before c) = numberIn (call (handedOn call (fresh kind) before) c .answer)
 numberOf (writer phase tickets c) = numberIn (writerCall (writerWith phase tickets) c .answer)
-numberOf (sealing key nonce «data» text out) = numberIn (sealMessage key nonce «data» text out .answer)
+numberOf (sealing key nonce «data» text out) = numberIn (sealMessage fullTagLength key nonce «data» text out .answer)
 numberOf (tape key bytes out) = numberIn (openTape key bytes out .answer)
 numberOf (reader bytes) = numberIn (readNext (readerOver bytes) .answer)
 
@@ -59,7 +60,7 @@ AllGive ((attempt gives n) ∷ rows) = (numberOf attempt ≡ n) × AllGive rows
 -- ## The table
 
 abbrev pub begins : Call
-begins = begin (string 16) (string 16)
+begins = begin (string 16) (string 16) fullTagLength
 
 abbrev pub rows : List Row
 rows =
@@ -76,13 +77,16 @@ rows =
     ∷ sealing (string 16) (string 16) [] (string 65537) [] gives 5
     -- 15 bytes at close
     ∷ machine Sealing (begins ∷ []) (sealClose (string 15)) gives 6
+    -- document 02, P4: a length outside 8 to 16, and a tag of sixteen bytes where eight are fixed
+    ∷ machine Sealing [] (begin (string 16) (string 16) 7) gives 9
+    ∷ machine Checking (begin (string 16) (string 16) 8 ∷ []) (checkClose (string 16)) gives 2
     -- last plain byte C1, before a reader; on a tape it is `BadTickets` (Laws)
     ∷ reader lastByteC1 gives 8
     ∷ []
 
 -- ## 7, which is not computed
 
--- the last bit of a tag, bit 127, is the bit of weight 2^7 of its last byte
+-- the last bit of a tag, bit 127 of the sixteen bytes, is the bit of weight 2^7 of its last byte
 abbrev pub bit7Turned : ℕ → ℕ
 bit7Turned x = x - 128 if leb 128 x else x + 128
 
@@ -95,8 +99,8 @@ lastBitTurned (x ∷ y ∷ l) = x ∷ lastBitTurned (y ∷ l)
 pub record RefusalExamples : Type 0 where
   pub table : AllGive rows
   -- last tag bit turned, of every sealed message and of every tape
-  pub message-tag : (key nonce «data» text out : List ℕ) → AreBytes text → WithinLimits key nonce «data» text → length text ≤ length out
-      → openMessage key nonce «data» (lastBitTurned (sealed key nonce «data» text)) out .answer ≡ refused 7
+  pub message-tag : (tagLength : ℕ) (key nonce «data» text out : List ℕ) → AreBytes text → WithinLimits tagLength key nonce «data» text → length text ≤ length out
+      → openMessage tagLength key nonce «data» (lastBitTurned (sealedWith tagLength key nonce «data» text)) out .answer ≡ refused 7
   pub tape-tag : (key : List ℕ) (head : Head) (tickets : List Ticket) (out : List ℕ)
       → length key ≡ keyLength → headRule head ≡ true → length tickets ≤ ticketLimit → ticketLength * length tickets ≤ length out
       → openTape key (lastBitTurned (tapeOf key head tickets)) out .answer ≡ refused 7

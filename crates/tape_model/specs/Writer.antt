@@ -118,7 +118,7 @@ started begun taken head w out =
 
 unfoldable pub work : PlainWriter → WriterCall → Outcome PlainWriter Work
 work w (start key head out) =
-    let begun : Outcome Machine Work = call (w .machine) (begin key (nonceOf (packHead head))) in
+    let begun : Outcome Machine Work = call (w .machine) (begin key (nonceOf (packHead head)) tapeTagLength) in
     started begun (call (begun .next) (dataCall (packHead head))) head w out
 work w (add ticket out) = passedOn (call (w .machine) (sealText (packTicket ticket) out)) Open (w .tickets + 1) w out
 work w (finish out) = passedOn (call (w .machine) (sealClose out)) Closed (w .tickets) w out

@@ -7,7 +7,7 @@ use Rattle.acorn_model.specs.Machine.{Call, begin, dataCall, sealText, sealClos
 use Rattle.tape_model.specs.declared.Ticket.{Ticket}
 use Rattle.tape_model.specs.declared.Head.{Head}
 use Rattle.tape_model.specs.Ticket.{packTicket, packHead}
-use Rattle.tape_model.specs.Tape.{nonceOf}
+use Rattle.tape_model.specs.Tape.{nonceOf, tapeTagLength}
 use Rattle.tape_model.specs.Writer.{WriterCall, start, add, finish}
 
 -- the arguments of an accepted start
@@ -27,7 +27,7 @@ ticketsOf (finish out) = []
 
 -- the calls of the machine below that an accepted call makes
 unfoldable pub machineCallsOf : WriterCall → List Call
-machineCallsOf (start key head out) = begin key (nonceOf (packHead head)) ∷ dataCall (packHead head) ∷ []
+machineCallsOf (start key head out) = begin key (nonceOf (packHead head)) tapeTagLength ∷ dataCall (packHead head) ∷ []
 machineCallsOf (add ticket out) = sealText (packTicket ticket) out ∷ []
 machineCallsOf (finish out) = sealClose out ∷ []
 

@@ -8,8 +8,9 @@ use lib.ListN.{length, take, drop, replicate, length-append, length-drop}
 use lib.Seq.{length-take-le, take-all, take-at}
 use borrow.Author.Tests.{eq-eqb, le-leb}
 use Rattle.calls.specs.Calls.{_if_else_, Reply, refused, done, mapReply, unlessRefused, writtenOver, resultOf, isRefused}
-use Rattle.acorn_model.specs.Machine.{keyLength, nonceLength, tagLength}
+use Rattle.acorn_model.specs.Machine.{keyLength, nonceLength}
 use Rattle.acorn_model.specs.Message.{tagMatches}
+use Rattle.acorn_model.specs.Stretches.{fullTagLength}
 use Rattle.acorn_model.proofs.Messages.{opened-length}
 use Rattle.tape_model.specs.declared.Ticket.{Ticket}
 use Rattle.tape_model.specs.Ticket.{headLength}
@@ -38,7 +39,7 @@ module _ (key tape scratch : List ℕ) (only-text : OnlyText key tape scratch) w
 
   plain-length : length (plainBytes key tape) ≡ length tape - emptyTapeLength
   unfolding plainBytes
-  plain-length = opened-length key (nonceOf (headBytes tape)) (headBytes tape) (sealedBytes tape) ∙ omega (arith, length-drop headLength tape)
+  plain-length = opened-length fullTagLength key (nonceOf (headBytes tape)) (headBytes tape) (sealedBytes tape) ∙ omega (arith, length-drop headLength tape)
 
   -- what decrypting the sealed bytes came to
   module _ (nonce sealed mid : List ℕ) (good : Bool) (nonce-told : nonce ≡ nonceOrZeros (headBytes tape)) (sealed-is : sealed ≡ sealedBytes tape)
@@ -59,8 +60,8 @@ module _ (key tape scratch : List ℕ) (only-text : OnlyText key tape scratch) w
     sized = rw (
       eq-eqb (length key) keyLength (o .key-size),
       eq-eqb (length (nonceOf head)) nonceLength nonce-size,
-      le-leb tagLength (length (sealedBytes tape)) (omega (arith, length-drop headLength tape, o .tape-size .long)),
-      le-leb (length (sealedBytes tape) - tagLength) (length scratch) (omega (arith, length-drop headLength tape, o .room)),
+      le-leb fullTagLength (length (sealedBytes tape)) (omega (arith, length-drop headLength tape, o .tape-size .long)),
+      le-leb (length (sealedBytes tape) - fullTagLength) (length scratch) (omega (arith, length-drop headLength tape, o .room)),
     )
 
     verdict : tagMatches key (nonceOf head) head (sealedBytes tape) ≡ good

@@ -13,7 +13,7 @@ use Rattle.tape_model.specs.declared.WriterPhase.{WriterPhase}
 use Rattle.tape_model.specs.declared.WriterPhase.the-variants.{Open}
 use Rattle.tape_model.specs.Ticket.{headLength, packHead}
 use Rattle.tape_model.specs.Writer.{PlainWriter, WriterCall, outputOf, phaseAllows, keyRight, headRight, ticketRight, tapeFull, outputShort, refusal, onAnswer, passedOn, started, start, work, writerCall}
-use Rattle.tape_model.specs.Tape.{nonceOf}
+use Rattle.tape_model.specs.Tape.{tapeTagLength, nonceOf}
 use Rattle.tape_model.proofs.Refusals.{WriterPassed, writer-works}
 use Rattle.session.specs.declared.Session.{Session}
 use Rattle.session.specs.declared.Reply.{Reply as SessionReply}
@@ -159,9 +159,9 @@ module _ (w : Writer) (r : SessionReply) (out after : List ℕ) (phase : WriterP
 
 -- ## Begin, and then data with the head
 
-module _ (s : Session) (key head : List ℕ) (r : SessionReply) (e : Called s (begin key (nonceOf head)) r []) where
+module _ (s : Session) (key head : List ℕ) (r : SessionReply) (e : Called s (begin key (nonceOf head) tapeTagLength) r []) where
   abbrev begun : Outcome Machine Work
-  begun = machine.call (machineOf s) (begin key (nonceOf head))
+  begun = machine.call (machineOf s) (begin key (nonceOf head) tapeTagLength)
 
   abbrev taken : Outcome Machine Work
   taken = machine.call (begun .next) (dataCall head)

@@ -5,7 +5,7 @@ use Prim.Native.Nat.{ℕ}
 use Rattle.calls.specs.declared.Answer.the-variants.{Refused, Done}
 use Rattle.calls.specs.Calls.{_if_else_, Reply, refused, done, Work, Outcome, answerReply, isRefused}
 use Rattle.acorn_model.specs.Machine.{Machine, begin, dataCall, call}
-use Rattle.tape_model.specs.Tape.{nonceOf}
+use Rattle.tape_model.specs.Tape.{tapeTagLength, nonceOf}
 use Rattle.tape_model.specs.Writer.{PlainWriter, WriterCall, writerCall}
 use Rattle.session.specs.declared.Reply.{Reply as SessionReply}
 use Rattle.session.specs.Contracts.{machineOf, wrappedMachine, wrappedReply}
@@ -47,7 +47,7 @@ unlessBegun (done work) begun taken = taken
 
 unfoldable pub headTaken : Machine → List ℕ → List ℕ → Outcome Machine Work
 headTaken m key head =
-    let begun : Outcome Machine Work = call m (begin key (nonceOf head)) in
+    let begun : Outcome Machine Work = call m (begin key (nonceOf head) tapeTagLength) in
     unlessBegun (begun .answer) begun (call (begun .next) (dataCall head))
 
 -- the session's reply r has the answer of the outcome o and, where it is accepted, hands on a session that stands for the machine of o

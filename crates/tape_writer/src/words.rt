@@ -1,6 +1,7 @@
 // A writer in twelve words, for callers that cannot hold the struct. Any twelve words are read as some writer.
 use super::Writer;
 use session::Session;
+use tape_model::TAPE_TAG_LENGTH;
 use tape_model::WriterPhase;
 ghost use mathlib.Core.Path.{_≡_};
 ghost use Rattle.tape_writer.specs.Contracts.{writerOf};
@@ -44,6 +45,7 @@ impl Writer {
             words[7],
             words[8],
             words[9],
+            TAPE_TAG_LENGTH as u64,
         ];
         Writer {
             session: Session::from_words(&first),

@@ -2,7 +2,7 @@
 //!
 //! Answers are as in C: `refused` is 0 where the call was done, else the number that sent it back
 //! (see [`Refusal`](crate::Refusal)). The numbers beside a call are those with which it may be
-//! refused; the smallest that applies is given.
+//! refused, in the order in which they are tried; the first that applies is given.
 //! Most programs want the types at the root of the crate instead; these calls are there for tests,
 //! and for whoever needs a session whose kind is known only when the program runs.
 //!
@@ -119,7 +119,7 @@ pub struct TruckCounts {
 /// A session of either kind. A drop puts zeros in place of its words.
 #[repr(C)]
 pub struct Session {
-    words: [u64; 10],
+    words: [u64; 11],
 }
 
 /// A tape's writer. A drop puts zeros in place of its words.
@@ -134,10 +134,15 @@ extern "C" {
         text: *const u8, textlen: usize, out: *mut u8, outlen: usize) -> Written;
     fn ht_open(key: *const u8, keylen: usize, nonce: *const u8, noncelen: usize, data: *const u8, datalen: usize,
         sealed: *const u8, sealedlen: usize, out: *mut u8, outlen: usize) -> Written;
+    fn ht_seal_tag(key: *const u8, keylen: usize, nonce: *const u8, noncelen: usize, data: *const u8, datalen: usize,
+        text: *const u8, textlen: usize, taglen: usize, out: *mut u8, outlen: usize) -> Written;
+    fn ht_open_tag(key: *const u8, keylen: usize, nonce: *const u8, noncelen: usize, data: *const u8, datalen: usize,
+        sealed: *const u8, sealedlen: usize, taglen: usize, out: *mut u8, outlen: usize) -> Written;
 
     fn ht_session_fresh_sealing(s: *mut Session);
     fn ht_session_fresh_checking(s: *mut Session);
     fn ht_session_begin(s: *mut Session, key: *const u8, keylen: usize, nonce: *const u8, noncelen: usize) -> Answer;
+    fn ht_session_begin_tag(s: *mut Session, key: *const u8, keylen: usize, nonce: *const u8, noncelen: usize, taglen: usize) -> Answer;
     fn ht_session_data(s: *mut Session, piece: *const u8, piecelen: usize) -> Answer;
     fn ht_session_seal_text(s: *mut Session, piece: *const u8, piecelen: usize, out: *mut u8, outlen: usize) -> Answer;
     fn ht_session_seal_close(s: *mut Session, out: *mut u8, outlen: usize) -> Answer;
@@ -187,7 +192,7 @@ impl Drop for Writer {
     }
 }
 
-/// Seals a message: ciphertext and then tag. 2, 5, 6.
+/// Seals a message: ciphertext and then a tag of 16 bytes. 2, 5, 6.
 pub fn seal(key: &[u8], nonce: &[u8], data: &[u8], text: &[u8], out: &mut [u8]) -> Written {
     // SAFETY: see the module's text.
     unsafe {
@@ -225,11 +230,65 @@ pub fn open(key: &[u8], nonce: &[u8], data: &[u8], sealed: &[u8], out: &mut [u8]
     }
 }
 
+/// As [`seal`], with a tag of so many bytes, 8 to 16: the last of the sixteen. 9, 2, 5, 6.
+pub fn seal_tag(
+    key: &[u8],
+    nonce: &[u8],
+    data: &[u8],
+    text: &[u8],
+    tag_length: usize,
+    out: &mut [u8],
+) -> Written {
+    // SAFETY: see the module's text.
+    unsafe {
+        ht_seal_tag(
+            key.as_ptr(),
+            key.len(),
+            nonce.as_ptr(),
+            nonce.len(),
+            data.as_ptr(),
+            data.len(),
+            text.as_ptr(),
+            text.len(),
+            tag_length,
+            out.as_mut_ptr(),
+            out.len(),
+        )
+    }
+}
+
+/// Opens what `seal_tag` wrote with this length. 9, 2, 5, 6, 7.
+pub fn open_tag(
+    key: &[u8],
+    nonce: &[u8],
+    data: &[u8],
+    sealed: &[u8],
+    tag_length: usize,
+    out: &mut [u8],
+) -> Written {
+    // SAFETY: see the module's text.
+    unsafe {
+        ht_open_tag(
+            key.as_ptr(),
+            key.len(),
+            nonce.as_ptr(),
+            nonce.len(),
+            data.as_ptr(),
+            data.len(),
+            sealed.as_ptr(),
+            sealed.len(),
+            tag_length,
+            out.as_mut_ptr(),
+            out.len(),
+        )
+    }
+}
+
 impl Session {
     /// A fresh sealing session.
     #[must_use]
     pub fn fresh_sealing() -> Session {
-        let mut session = Session { words: [0; 10] };
+        let mut session = Session { words: [0; 11] };
         // SAFETY: see the module's text.
         unsafe { ht_session_fresh_sealing(&mut session) };
         session
@@ -238,7 +297,7 @@ impl Session {
     /// A fresh checking session.
     #[must_use]
     pub fn fresh_checking() -> Session {
-        let mut session = Session { words: [0; 10] };
+        let mut session = Session { words: [0; 11] };
         // SAFETY: see the module's text.
         unsafe { ht_session_fresh_checking(&mut session) };
         session
@@ -247,14 +306,29 @@ impl Session {
     /// The session's own words. They may change with the library: tests alone should look.
     #[doc(hidden)]
     #[must_use]
-    pub fn words(&self) -> &[u64; 10] {
+    pub fn words(&self) -> &[u64; 11] {
         &self.words
     }
 
-    /// Takes key and nonce. 1, 2.
+    /// Takes key and nonce; the tag has 16 bytes. 1, 2.
     pub fn begin(&mut self, key: &[u8], nonce: &[u8]) -> Answer {
         // SAFETY: see the module's text.
         unsafe { ht_session_begin(self, key.as_ptr(), key.len(), nonce.as_ptr(), nonce.len()) }
+    }
+
+    /// As `begin`, and the tag has so many bytes, 8 to 16: the last of the sixteen. 1, 9, 2.
+    pub fn begin_tag(&mut self, key: &[u8], nonce: &[u8], tag_length: usize) -> Answer {
+        // SAFETY: see the module's text.
+        unsafe {
+            ht_session_begin_tag(
+                self,
+                key.as_ptr(),
+                key.len(),
+                nonce.as_ptr(),
+                nonce.len(),
+                tag_length,
+            )
+        }
     }
 
     /// Takes a piece of data. 1, 5.
@@ -277,7 +351,7 @@ impl Session {
         }
     }
 
-    /// Writes the tag. 1, 6.
+    /// Writes the tag, of the length fixed at begin. 1, 6.
     pub fn seal_close(&mut self, out: &mut [u8]) -> Answer {
         // SAFETY: see the module's text.
         unsafe { ht_session_seal_close(self, out.as_mut_ptr(), out.len()) }
@@ -289,7 +363,7 @@ impl Session {
         unsafe { ht_session_check_text(self, piece.as_ptr(), piece.len()) }
     }
 
-    /// Compares the tag. 1, 2, and 7, which closes the session, too.
+    /// Compares the tag, of the length fixed at begin. 1, 2, and 7, which closes the session, too.
     pub fn check_close(&mut self, tag: &[u8]) -> Answer {
         // SAFETY: see the module's text.
         unsafe { ht_session_check_close(self, tag.as_ptr(), tag.len()) }

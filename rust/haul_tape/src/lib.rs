@@ -36,14 +36,17 @@
 //! # Ok::<(), Refusal>(())
 //! ```
 //!
-//! # Keys and nonces
+//! # Keys, nonces and tags
 //!
-//! A key, nonce or tag is a slice, and a `&[u8; 16]` passes as it is; one that is not 16 bytes is
-//! refused with [`Refusal::Size`]. With the library of its own version no call panics: whatever it is
-//! given, it is done or refused.
+//! A key, nonce or tag is a slice, and a `&[u8; 16]` passes as it is; one of a wrong size is refused
+//! with [`Refusal::Size`]. Keys and nonces have 16 bytes, and so has a tag, unless a call with `tag`
+//! in its name asks for another length, 8 to 16; [`Refusal::TagLength`] is for any other. With the
+//! library of its own version no call panics: whatever it is given, it is done or refused.
 //!
-//! Never use a key and nonce for a second message, nor a key and head, of which the library makes a
-//! tape's nonce, for a second tape: nothing here can notice it.
+//! Never use a key and nonce for a second message, nor with two lengths of tag, nor a key and head,
+//! of which the library makes a tape's nonce, for a second tape: nothing here can notice it. One try
+//! at guessing a tag of n bytes succeeds with a probability of 2^(-8n), and many tries add up:
+//! sixteen bytes are recommended.
 //!
 //! # Secrets
 //!
@@ -60,7 +63,8 @@
 //!
 //! The crate needs `core` alone and has no dependencies. The feature `alloc`, on unless the
 //! dependency says `default-features = false`, adds the calls that answer a `Vec` or `String`:
-//! `message::seal_to_vec`, `message::open_to_vec` and `listing_to_string`. There is no other feature.
+//! `message::seal_to_vec`, `message::open_to_vec`, `message::seal_tag_to_vec`,
+//! `message::open_tag_to_vec` and `listing_to_string`. There is no other feature.
 //!
 //! On Linux `core` as it comes refers to the unwinder. A program without `std` links there when it
 //! is optimized with `panic = "abort"` and `lto = true`; a static library, optimized with
@@ -105,8 +109,10 @@ pub use trucks::{truck_set_of, trucks, trucks_of_two, TruckCounts};
 pub const KEY_BYTES: usize = 16;
 /// Bytes of a nonce.
 pub const NONCE_BYTES: usize = 16;
-/// Bytes of a tag.
+/// Bytes of a tag, where no other length is fixed; the most that it can have.
 pub const TAG_BYTES: usize = 16;
+/// The fewest bytes of a tag.
+pub const LEAST_TAG_BYTES: usize = 8;
 /// Bytes of a packed ticket.
 pub const TICKET_BYTES: usize = 13;
 /// Bytes of a packed head.

@@ -3,8 +3,9 @@ use core::fmt;
 
 /// Why a call was sent back.
 ///
-/// Where several apply, the one with the smallest number is given. A refused call changes nothing,
-/// neither session nor writer nor output; but [`Refusal::Tag`] closes a [`Checking`] session.
+/// Where several apply, the one with the smallest number is given; but [`Refusal::TagLength`], 9,
+/// comes right after [`Refusal::Phase`], 1. A refused call changes nothing, neither session nor
+/// writer nor output; but [`Refusal::Tag`] closes a [`Checking`] session.
 ///
 /// Later papers may add numbers, so a `match` needs an arm for the others.
 ///
@@ -24,9 +25,10 @@ use core::fmt;
 pub enum Refusal {
     /// 1: the call does not fit the phase, or is meant for the other kind of session.
     Phase = 1,
-    /// 2: a key, nonce or tag that is not 16 bytes; sealed bytes under 16; a tape that is not
-    /// 25 + 13n bytes, or tickets' bytes that are not 13n, with n at most 5,000; a packed ticket
-    /// that is not 13 bytes, a packed head that is not 9.
+    /// 2: a key or nonce that is not 16 bytes; a tag of another length than the one fixed; sealed
+    /// bytes shorter than the tag; a tape that is not 25 + 13n bytes, or tickets' bytes that are
+    /// not 13n, with n at most 5,000; a packed ticket that is not 13 bytes, a packed head that is
+    /// not 9.
     Size = 2,
     /// 3: a head field outside its range.
     Head = 3,
@@ -40,6 +42,8 @@ pub enum Refusal {
     Tag = 7,
     /// 8: a ticket does not unpack.
     Unpack = 8,
+    /// 9: the length asked for a tag is not 8 to 16 bytes.
+    TagLength = 9,
 }
 
 impl Refusal {
@@ -70,6 +74,7 @@ impl Refusal {
             6 => Refusal::Output,
             7 => Refusal::Tag,
             8 => Refusal::Unpack,
+            9 => Refusal::TagLength,
             _ => return None,
         })
     }
@@ -86,6 +91,7 @@ impl fmt::Display for Refusal {
             Refusal::Output => "the output is too short",
             Refusal::Tag => "the tag differs",
             Refusal::Unpack => "a ticket does not unpack",
+            Refusal::TagLength => "the length asked for a tag is not 8 to 16 bytes",
         };
         write!(f, "{reason} (refusal {})", self.number())
     }

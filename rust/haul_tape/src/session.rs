@@ -10,12 +10,12 @@ pub struct Done {
     pub steps: u64,
 }
 
-/// Seals a message in pieces: [`begin`], [`data`] any number of times, [`text`] any number of
-/// times, [`close`].
+/// Seals a message in pieces: [`begin`], or [`begin_tag`] for a shorter tag, [`data`] any number of
+/// times, [`text`] any number of times, [`close`].
 ///
-/// Wherever the pieces are cut, the bytes written are those of [`message::seal`]. What the session
-/// holds is as secret as its key, and is cleared by a close or a drop: see
-/// [Secrets](crate#secrets).
+/// Wherever the pieces are cut, the bytes written are those of [`message::seal`], or after
+/// [`begin_tag`] of [`message::seal_tag`]. What the session holds is as secret as its key, and is
+/// cleared by a close or a drop: see [Secrets](crate#secrets).
 ///
 /// ```
 /// use haul_tape::{message, Sealing};
@@ -38,10 +38,12 @@ pub struct Done {
 /// ```
 ///
 /// [`begin`]: Sealing::begin
+/// [`begin_tag`]: Sealing::begin_tag
 /// [`data`]: Sealing::data
 /// [`text`]: Sealing::text
 /// [`close`]: Sealing::close
 /// [`message::seal`]: crate::message::seal
+/// [`message::seal_tag`]: crate::message::seal_tag
 pub struct Sealing(exports::Session);
 
 impl Sealing {
@@ -51,7 +53,7 @@ impl Sealing {
         Sealing(exports::Session::fresh_sealing())
     }
 
-    /// Takes key and nonce, 16 bytes each. They must serve one message only.
+    /// Takes key and nonce, 16 bytes each; the tag will have 16. They must serve one message only.
     ///
     /// # Errors
     ///
@@ -61,6 +63,42 @@ impl Sealing {
     /// - [`Refusal::Size`]: key or nonce is not 16 bytes
     pub fn begin(&mut self, key: &[u8], nonce: &[u8]) -> Result<Done, Refusal> {
         self.0.begin(key, nonce).into_result()
+    }
+
+    /// As [`begin`](Sealing::begin), and the tag will have `tag_length` bytes, 8 to 16, which are the
+    /// last of the sixteen. A key and nonce must not be used with two lengths: see
+    /// [Keys, nonces and tags](crate#keys-nonces-and-tags).
+    ///
+    /// ```
+    /// use haul_tape::{message, Sealing};
+    ///
+    /// let (key, nonce) = ([1; 16], [2; 16]);
+    /// let mut sealed = [0; 6 + 8];
+    /// let mut session = Sealing::new();
+    /// session.begin_tag(&key, &nonce, 8)?;
+    /// session.text(b"face 4", &mut sealed)?;
+    /// assert_eq!(session.close(&mut sealed[6..])?.bytes, 8);
+    ///
+    /// let mut text = [0; 6];
+    /// message::open_tag(&key, &nonce, &[], &sealed, 8, &mut text)?;
+    /// assert_eq!(&text, b"face 4");
+    /// # Ok::<(), haul_tape::Refusal>(())
+    /// ```
+    ///
+    /// # Errors
+    ///
+    /// The first of these that applies:
+    ///
+    /// - [`Refusal::Phase`]: the session is not fresh
+    /// - [`Refusal::TagLength`]: `tag_length` is not 8 to 16
+    /// - [`Refusal::Size`]: key or nonce is not 16 bytes
+    pub fn begin_tag(
+        &mut self,
+        key: &[u8],
+        nonce: &[u8],
+        tag_length: usize,
+    ) -> Result<Done, Refusal> {
+        self.0.begin_tag(key, nonce, tag_length).into_result()
     }
 
     /// Takes a piece of data.
@@ -88,21 +126,22 @@ impl Sealing {
         self.0.seal_text(piece, out).into_result()
     }
 
-    /// Ends the message and writes the 16 bytes of its tag.
+    /// Ends the message and writes its tag: 16 bytes, or as many as `begin_tag` was given.
     ///
     /// # Errors
     ///
     /// The first of these that applies:
     ///
     /// - [`Refusal::Phase`]: before `begin`, or after a close
-    /// - [`Refusal::Output`]: `out` is shorter than 16 bytes
+    /// - [`Refusal::Output`]: `out` is shorter than the tag
     pub fn close(&mut self, out: &mut [u8]) -> Result<Done, Refusal> {
         self.0.seal_close(out).into_result()
     }
 }
 
-/// Checks the tag of a message in pieces, and gives no text: [`begin`], [`data`] any number of
-/// times, [`text`] with ciphertext any number of times, [`close`] with the tag.
+/// Checks the tag of a message in pieces, and gives no text: [`begin`], or [`begin_tag`] for a
+/// shorter tag, [`data`] any number of times, [`text`] with ciphertext any number of times,
+/// [`close`] with the tag.
 ///
 /// What the session holds is as secret as its key, and is cleared by a close or a drop: see
 /// [Secrets](crate#secrets).
@@ -126,6 +165,7 @@ impl Sealing {
 /// ```
 ///
 /// [`begin`]: Checking::begin
+/// [`begin_tag`]: Checking::begin_tag
 /// [`data`]: Checking::data
 /// [`text`]: Checking::text
 /// [`close`]: Checking::close
@@ -138,7 +178,7 @@ impl Checking {
         Checking(exports::Session::fresh_checking())
     }
 
-    /// Takes key and nonce, 16 bytes each.
+    /// Takes key and nonce, 16 bytes each; the tag must have 16.
     ///
     /// # Errors
     ///
@@ -148,6 +188,38 @@ impl Checking {
     /// - [`Refusal::Size`]: key or nonce is not 16 bytes
     pub fn begin(&mut self, key: &[u8], nonce: &[u8]) -> Result<Done, Refusal> {
         self.0.begin(key, nonce).into_result()
+    }
+
+    /// As [`begin`](Checking::begin), and the tag must have `tag_length` bytes, 8 to 16.
+    ///
+    /// ```
+    /// use haul_tape::{message, Checking, Refusal};
+    ///
+    /// let (key, nonce) = ([1; 16], [2; 16]);
+    /// let mut sealed = [0; 6 + 8];
+    /// message::seal_tag(&key, &nonce, &[], b"face 4", 8, &mut sealed)?;
+    /// let mut session = Checking::new();
+    /// session.begin_tag(&key, &nonce, 8)?;
+    /// session.text(&sealed[..6])?;
+    /// assert_eq!(session.close(&[0; 16]), Err(Refusal::Size));
+    /// assert!(session.close(&sealed[6..]).is_ok());
+    /// # Ok::<(), Refusal>(())
+    /// ```
+    ///
+    /// # Errors
+    ///
+    /// The first of these that applies:
+    ///
+    /// - [`Refusal::Phase`]: the session is not fresh
+    /// - [`Refusal::TagLength`]: `tag_length` is not 8 to 16
+    /// - [`Refusal::Size`]: key or nonce is not 16 bytes
+    pub fn begin_tag(
+        &mut self,
+        key: &[u8],
+        nonce: &[u8],
+        tag_length: usize,
+    ) -> Result<Done, Refusal> {
+        self.0.begin_tag(key, nonce, tag_length).into_result()
     }
 
     /// Takes a piece of data.
@@ -182,7 +254,7 @@ impl Checking {
     /// The first of these that applies:
     ///
     /// - [`Refusal::Phase`]: before `begin`, or after a close
-    /// - [`Refusal::Size`]: the tag is not 16 bytes
+    /// - [`Refusal::Size`]: the tag is not 16 bytes, or not as many as `begin_tag` was given
     /// - [`Refusal::Tag`]: the tag differs
     pub fn close(&mut self, tag: &[u8]) -> Result<Done, Refusal> {
         self.0.check_close(tag).into_result()

@@ -53,6 +53,283 @@ fn sizes_of_key_nonce_and_tag() {
     }
 }
 
+/// A tag of 8 to 16 bytes is the end of the sixteen, of whole messages and in pieces.
+#[test]
+fn tags_of_every_length() {
+    let (key, nonce, data, text) = ([1; 16], [2; 16], b"shift 2", b"face 4 closed");
+    let mut long = [0; 13 + 16];
+    message::seal(&key, &nonce, data, text, &mut long).unwrap();
+    for length in 8..=16 {
+        let wanted = [&long[..13], &long[13 + 16 - length..]].concat();
+        let sealed_bytes = 13 + length;
+
+        // whole, with more room than is needed and with just so much
+        let mut sealed = [0x5A; 13 + 16 + 3];
+        let answer = message::seal_tag(&key, &nonce, data, text, length, &mut sealed);
+        assert_eq!(answer, Ok(sealed_bytes));
+        assert_eq!(sealed[..sealed_bytes], wanted);
+        assert!(sealed[sealed_bytes..].iter().all(|&byte| byte == 0x5A));
+        let mut exact = vec![0x5A; sealed_bytes];
+        let answer = message::seal_tag(&key, &nonce, data, text, length, &mut exact);
+        assert_eq!(answer, Ok(sealed_bytes));
+        assert_eq!(exact, wanted);
+        let mut opened = [0x5A; 13 + 3];
+        let answer = message::open_tag(&key, &nonce, data, &wanted, length, &mut opened);
+        assert_eq!(answer, Ok(13));
+        assert_eq!(&opened[..13], text);
+        assert_eq!(opened[13..], [0x5A; 3]);
+        let mut exact = [0x5A; 13];
+        let answer = message::open_tag(&key, &nonce, data, &wanted, length, &mut exact);
+        assert_eq!(answer, Ok(13));
+        assert_eq!(&exact, text);
+
+        // in pieces
+        for room in sealed_bytes..=13 + 16 + 3 {
+            let mut sealed = [0x5A; 13 + 16 + 3];
+            let mut sealing = Sealing::new();
+            sealing.begin_tag(&key, &nonce, length).unwrap();
+            sealing.data(data).unwrap();
+            sealing.text(&text[..5], &mut sealed).unwrap();
+            sealing.text(&text[5..], &mut sealed[5..]).unwrap();
+            let short = sealing.close(&mut sealed[13..sealed_bytes - 1]);
+            assert_eq!(short, Err(Refusal::Output));
+            assert!(sealed[13..].iter().all(|&byte| byte == 0x5A));
+            let done = sealing.close(&mut sealed[13..room]).unwrap();
+            assert_eq!((done.bytes, done.steps), (length, 3_072 + 8 * (7 + 13)));
+            assert_eq!(sealed[..sealed_bytes], wanted);
+            assert!(sealed[sealed_bytes..].iter().all(|&byte| byte == 0x5A));
+            assert_eq!(sealing.close(&mut [0; 16]), Err(Refusal::Phase));
+        }
+    }
+}
+
+/// A checking session takes a tag of the length that was fixed, and no other.
+#[test]
+fn tags_to_be_checked() {
+    let (key, nonce, data, text) = ([1; 16], [2; 16], b"shift 2", b"face 4 closed");
+    let mut long = [0; 13 + 16];
+    message::seal(&key, &nonce, data, text, &mut long).unwrap();
+    let tag_behind = [&long[13..], &[0; 8]].concat();
+    for length in 8..=16 {
+        let checking = || {
+            let mut checking = Checking::new();
+            checking.begin_tag(&key, &nonce, length).unwrap();
+            checking.data(data).unwrap();
+            checking.text(&long[..13]).unwrap();
+            checking
+        };
+        let mut session = checking();
+        for other in (0..=24).filter(|&other| other != length) {
+            let from = 16_usize.saturating_sub(other);
+            let answer = session.close(&tag_behind[from..from + other]);
+            assert_eq!(answer, Err(Refusal::Size));
+        }
+        let tag = &long[13 + 16 - length..];
+        let done = session.close(tag).unwrap();
+        assert_eq!((done.bytes, done.steps), (0, 3_072 + 8 * (7 + 13)));
+        assert_eq!(session.close(tag), Err(Refusal::Phase));
+
+        for bit in 0..8 * length {
+            let mut tag = tag.to_vec();
+            tag[bit / 8] ^= 1 << (bit % 8);
+            let mut session = checking();
+            assert_eq!(session.close(&tag), Err(Refusal::Tag));
+            assert_eq!(session.close(&tag), Err(Refusal::Phase));
+
+            let sealed = [&long[..13], &tag].concat();
+            let mut out = [0x5A; 13];
+            let answer = message::open_tag(&key, &nonce, data, &sealed, length, &mut out);
+            assert_eq!(answer, Err(Refusal::Tag));
+            assert_eq!(out, [0x5A; 13]);
+        }
+        if length < 16 {
+            // the first bytes of the sixteen, and not the last
+            let mut session = checking();
+            assert_eq!(session.close(&long[13..13 + length]), Err(Refusal::Tag));
+        }
+    }
+}
+
+/// What the calls of today do is what the calls with a length do for sixteen.
+#[test]
+fn sixteen_is_meant_without_a_length() {
+    let (key, nonce) = ([1; 16], [2; 16]);
+    for text in [&b""[..], b"face 4"] {
+        let (mut without, mut with) = ([0; 22], [0; 22]);
+        assert_eq!(
+            exports::seal(&key, &nonce, b"data", text, &mut without),
+            exports::seal_tag(&key, &nonce, b"data", text, 16, &mut with)
+        );
+        assert_eq!(without, with);
+        let sealed = &with[..text.len() + 16];
+        let (mut without, mut with) = ([0; 6], [0; 6]);
+        assert_eq!(
+            exports::open(&key, &nonce, b"data", sealed, &mut without),
+            exports::open_tag(&key, &nonce, b"data", sealed, 16, &mut with)
+        );
+        assert_eq!(without, with);
+    }
+    for fresh in [
+        exports::Session::fresh_sealing,
+        exports::Session::fresh_checking,
+    ] {
+        let (mut without, mut with) = (fresh(), fresh());
+        let answer = without.begin(&key, &nonce);
+        assert_eq!(answer, with.begin_tag(&key, &nonce, 16));
+        assert_eq!(without.words(), with.words());
+    }
+}
+
+/// A length outside 8 to 16 is refused with 9, after 1 and before any other number.
+#[test]
+fn lengths_of_tags_that_there_are_not() {
+    let (key, nonce) = ([1; 16], [2; 16]);
+    let (right, short) = (&[1; 16][..], &[1; 15][..]);
+    let long = vec![3; 65_536 + 17];
+    let mut out = [0x5A; 40];
+    let refused = exports::Written {
+        refused: 9,
+        bytes: 0,
+    };
+    let lengths = (0..8).chain(17..=40).chain([usize::MAX, usize::MAX - 15]);
+    let lengths = lengths.chain((8..=16).map(|length| length + (1 << 32)));
+    for length in lengths {
+        // right arguments; then what is 2, 5 and 6 otherwise, and all of it
+        for (key, nonce, data, text, room) in [
+            (right, right, &[][..], &[4; 20][..], 40),
+            (short, right, &[], &[4; 20], 40),
+            (right, short, &[], &[4; 20], 40),
+            (right, right, &[], &[], 40),
+            (right, right, &long, &[4; 20], 40),
+            (right, right, &[], &long, 40),
+            (right, right, &[], &[4; 20], 0),
+            (short, short, &long, &long, 0),
+        ] {
+            let out = &mut out[..room];
+            let answer = exports::seal_tag(key, nonce, data, text, length, out);
+            assert_eq!(answer, refused);
+            let answer = exports::open_tag(key, nonce, data, text, length, out);
+            assert_eq!(answer, refused);
+            let answer = message::seal_tag(key, nonce, data, text, length, out);
+            assert_eq!(answer, Err(Refusal::TagLength));
+            let answer = message::open_tag(key, nonce, data, text, length, out);
+            assert_eq!(answer, Err(Refusal::TagLength));
+        }
+        assert_eq!(out, [0x5A; 40]);
+
+        for fresh in [
+            exports::Session::fresh_sealing,
+            exports::Session::fresh_checking,
+        ] {
+            let mut session = fresh();
+            for (key, nonce) in [(right, right), (short, right), (right, short)] {
+                let answer = session.begin_tag(key, nonce, length);
+                assert_eq!((answer.refused, answer.bytes, answer.steps), (9, 0, 0));
+                assert_eq!(session.words(), fresh().words());
+            }
+            assert_eq!(session.begin(&key, &nonce).refused, 0);
+            let begun = *session.words();
+            assert_eq!(session.begin_tag(&key, &nonce, length).refused, 1);
+            assert_eq!(session.begin_tag(short, short, length).refused, 1);
+            assert_eq!(session.words(), &begun);
+        }
+    }
+    let mut session = Sealing::new();
+    let answer = session.begin_tag(&key, &nonce, 7);
+    assert_eq!(answer, Err(Refusal::TagLength));
+    session.begin(&key, &nonce).unwrap();
+    assert_eq!(session.begin_tag(&key, &nonce, 7), Err(Refusal::Phase));
+    let mut session = Checking::new();
+    let answer = session.begin_tag(short, &nonce, 17);
+    assert_eq!(answer, Err(Refusal::TagLength));
+    session.begin(&key, &nonce).unwrap();
+    assert_eq!(session.begin_tag(&key, &nonce, 17), Err(Refusal::Phase));
+}
+
+/// With a length that there is, the other numbers come in their order.
+#[test]
+fn refusals_of_calls_with_a_length() {
+    let key = [1; 16];
+    let (nonce, short) = (&[2; 16][..], &[2; 15][..]);
+    let long = vec![3; 65_536 + 17];
+    for length in 8..=16 {
+        let mut out = [0x5A; 40];
+        let seal = |nonce: &[u8], data: &[u8], text: &[u8], out: &mut [u8]| {
+            message::seal_tag(&key, nonce, data, text, length, out)
+        };
+        let room = &mut out[..20 + length - 1];
+        let (most, more) = (&long[..65_536], &long[..65_537]);
+        assert_eq!(seal(nonce, &[], &[4; 20], room), Err(Refusal::Output));
+        assert_eq!(seal(nonce, &[], most, room), Err(Refusal::Output));
+        assert_eq!(seal(nonce, &[], more, room), Err(Refusal::Limit));
+        assert_eq!(seal(nonce, more, &[], room), Err(Refusal::Limit));
+        assert_eq!(seal(short, more, more, room), Err(Refusal::Size));
+
+        let open = |nonce: &[u8], data: &[u8], sealed: &[u8], out: &mut [u8]| {
+            message::open_tag(&key, nonce, data, sealed, length, out)
+        };
+        let room = &mut out[..19];
+        let sealed = &long[..20 + length];
+        let (most, more) = (&long[..65_536 + length], &long[..65_537 + length]);
+        assert_eq!(open(nonce, &[], &sealed[1..], room), Err(Refusal::Tag));
+        assert_eq!(open(nonce, &[], sealed, room), Err(Refusal::Output));
+        assert_eq!(open(nonce, &[], most, room), Err(Refusal::Output));
+        assert_eq!(open(nonce, &[], more, room), Err(Refusal::Limit));
+        assert_eq!(open(nonce, &long, sealed, room), Err(Refusal::Limit));
+        assert_eq!(open(short, &long, more, room), Err(Refusal::Size));
+        assert_eq!(
+            open(nonce, &[], &long[..length], &mut []),
+            Err(Refusal::Tag)
+        );
+        for size in 0..length {
+            assert_eq!(open(nonce, &[], &long[..size], room), Err(Refusal::Size));
+            let answer = open(nonce, &long, &long[..size], &mut []);
+            assert_eq!(answer, Err(Refusal::Size));
+        }
+        assert_eq!(out, [0x5A; 40]);
+    }
+}
+
+/// A refused begin fixes nothing: the length is that of the begin that is done.
+#[test]
+fn a_refused_begin_fixes_no_length() {
+    let (key, nonce, short) = ([1; 16], [2; 16], &[2; 15][..]);
+    let mut tag = [0; 16];
+    message::seal(&key, &nonce, &[], &[], &mut tag).unwrap();
+    for length in 8..=16 {
+        // the refused begin has another length, and so has one that comes too late
+        let other = if length == 16 { 8 } else { 16 };
+        let mut out = [0x5A; 20];
+        let mut session = Sealing::new();
+        let answer = session.begin_tag(&key, short, other);
+        assert_eq!(answer, Err(Refusal::Size));
+        assert_eq!(session.begin_tag(&key, &nonce, 7), Err(Refusal::TagLength));
+        session.begin_tag(&key, &nonce, length).unwrap();
+        let answer = session.begin_tag(&key, &nonce, other);
+        assert_eq!(answer, Err(Refusal::Phase));
+        assert_eq!(session.begin(&key, &nonce), Err(Refusal::Phase));
+        assert_eq!(session.close(&mut out).unwrap().bytes, length);
+        assert_eq!(out[..length], tag[16 - length..]);
+        assert!(out[length..].iter().all(|&byte| byte == 0x5A));
+
+        let mut session = Checking::new();
+        let answer = session.begin_tag(short, &nonce, other);
+        assert_eq!(answer, Err(Refusal::Size));
+        assert_eq!(session.begin_tag(&key, &nonce, 17), Err(Refusal::TagLength));
+        session.begin_tag(&key, &nonce, length).unwrap();
+        assert_eq!(session.begin(&key, &nonce), Err(Refusal::Phase));
+        assert_eq!(session.close(&tag[16 - other..]), Err(Refusal::Size));
+        session.close(&tag[16 - length..]).unwrap();
+
+        // after it begin fixes sixteen
+        let mut session = Checking::new();
+        let answer = session.begin_tag(short, &nonce, length);
+        assert_eq!(answer, Err(Refusal::Size));
+        session.begin(&key, &nonce).unwrap();
+        session.close(&tag).unwrap();
+    }
+}
+
 fn weighing(gross: u32, tare: u32) -> Ticket {
     Ticket {
         gross,
@@ -217,14 +494,15 @@ fn trucks_of_wrong_bytes() {
 
 #[test]
 fn numbers_of_refusals() {
-    for number in 1..=8 {
+    for number in 1..=9 {
         let refusal = Refusal::from_number(number).unwrap();
         assert_eq!(u32::from(refusal.number()), number);
         let error: &dyn Error = &refusal;
         assert!(error.to_string().ends_with(&format!("(refusal {number})")));
     }
     assert_eq!(Refusal::from_number(0), None);
-    assert_eq!(Refusal::from_number(9), None);
+    assert_eq!(Refusal::from_number(9), Some(Refusal::TagLength));
+    assert_eq!(Refusal::from_number(10), None);
 }
 
 /// What is secret, and what was opened, is not shown.
@@ -249,10 +527,10 @@ fn sessions_are_plain_words() {
     fn sendable<T: Send + Sync>(bytes: usize) {
         assert_eq!(size_of::<T>(), bytes);
     }
-    sendable::<Sealing>(80);
-    sendable::<Checking>(80);
+    sendable::<Sealing>(88);
+    sendable::<Checking>(88);
     sendable::<Writer>(96);
-    sendable::<exports::Session>(80);
+    sendable::<exports::Session>(88);
     sendable::<exports::Writer>(96);
     sendable::<Ticket>(24);
     sendable::<Head>(12);
@@ -276,4 +554,26 @@ fn vectors_and_limits() {
     assert_eq!(answer, Err(Refusal::Limit));
     let answer = message::open_to_vec(&key, &nonce, &[], &long[..15]);
     assert_eq!(answer, Err(Refusal::Size));
+
+    for length in 8..=16 {
+        let seal = |text: &[u8]| message::seal_tag_to_vec(&key, &nonce, &[], text, length);
+        let open = |sealed: &[u8]| message::open_tag_to_vec(&key, &nonce, &[], sealed, length);
+        for bytes in [0, 1, 65_536] {
+            let sealed = seal(&long[..bytes]).unwrap();
+            assert_eq!(sealed.len(), bytes + length);
+            assert_eq!(open(&sealed).unwrap(), long[..bytes]);
+        }
+        assert_eq!(seal(&long[..65_537]), Err(Refusal::Limit));
+        assert_eq!(open(&long[..65_537 + length]), Err(Refusal::Limit));
+        assert_eq!(open(&long[..65_536 + length]), Err(Refusal::Tag));
+        assert_eq!(open(&long[..length - 1]), Err(Refusal::Size));
+    }
+    for length in [0, 7, 17, usize::MAX] {
+        for bytes in [0, 1, 65_537] {
+            let answer = message::seal_tag_to_vec(&key, &nonce, &[], &long[..bytes], length);
+            assert_eq!(answer, Err(Refusal::TagLength));
+            let answer = message::open_tag_to_vec(&key, &nonce, &[], &long[..bytes], length);
+            assert_eq!(answer, Err(Refusal::TagLength));
+        }
+    }
 }

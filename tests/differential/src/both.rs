@@ -136,6 +136,44 @@ pub fn open(key: &[u8], nonce: &[u8], data: &[u8], sealed: &[u8], room: usize) -
     )
 }
 
+/// Seals, with a tag of this length, into an output of `room` bytes.
+#[track_caller]
+pub fn seal_tag(
+    key: &[u8],
+    nonce: &[u8],
+    data: &[u8],
+    text: &[u8],
+    tag_bytes: usize,
+    room: usize,
+) -> Ran<usize> {
+    agree(
+        "seal, with a length of the tag",
+        &[key, nonce, data, text],
+        room,
+        |out| written(exports::seal_tag(key, nonce, data, text, tag_bytes, out)),
+        |out| message::seal_tag(key, nonce, data, text, tag_bytes, out),
+    )
+}
+
+/// Opens, with a tag of this length, into an output of `room` bytes.
+#[track_caller]
+pub fn open_tag(
+    key: &[u8],
+    nonce: &[u8],
+    data: &[u8],
+    sealed: &[u8],
+    tag_bytes: usize,
+    room: usize,
+) -> Ran<usize> {
+    agree(
+        "open, with a length of the tag",
+        &[key, nonce, data, sealed],
+        room,
+        |out| written(exports::open_tag(key, nonce, data, sealed, tag_bytes, out)),
+        |out| message::open_tag(key, nonce, data, sealed, tag_bytes, out),
+    )
+}
+
 /// Packs a ticket into an output of `room` bytes.
 #[track_caller]
 pub fn pack_ticket(ticket: Ticket, room: usize) -> Ran<usize> {

@@ -9,12 +9,31 @@ use haul_tape_twin::tape;
 /// A call on a session with its arguments; `room` is the length of its output.
 #[derive(Clone, PartialEq, Eq, Debug)]
 pub enum SessionCall {
-    Begin { key: Vec<u8>, nonce: Vec<u8> },
-    Data { piece: Vec<u8> },
-    SealText { piece: Vec<u8>, room: usize },
-    SealClose { room: usize },
-    CheckText { piece: Vec<u8> },
-    CheckClose { tag: Vec<u8> },
+    Begin {
+        key: Vec<u8>,
+        nonce: Vec<u8>,
+    },
+    BeginTag {
+        key: Vec<u8>,
+        nonce: Vec<u8>,
+        tag_bytes: usize,
+    },
+    Data {
+        piece: Vec<u8>,
+    },
+    SealText {
+        piece: Vec<u8>,
+        room: usize,
+    },
+    SealClose {
+        room: usize,
+    },
+    CheckText {
+        piece: Vec<u8>,
+    },
+    CheckClose {
+        tag: Vec<u8>,
+    },
 }
 
 /// A call on a writer with its arguments; `room` is the length of its output.
@@ -73,6 +92,17 @@ impl Sessions {
                 0,
                 |_| both::done(library.begin(key, nonce)),
                 |_| twin.begin(key, nonce),
+            ),
+            SessionCall::BeginTag {
+                key,
+                nonce,
+                tag_bytes,
+            } => agree(
+                "begin, with a length of the tag",
+                &[key, nonce],
+                0,
+                |_| both::done(library.begin_tag(key, nonce, *tag_bytes)),
+                |_| twin.begin_tag(key, nonce, *tag_bytes),
             ),
             SessionCall::Data { piece } => agree(
                 "data",

@@ -4,12 +4,15 @@ use haul_tape_twin::cipher::STATE_BITS;
 use haul_tape_twin::machine::{Kind, Machine, Phase};
 use haul_tape_twin::tape::{Writer, WriterPhase};
 
-// The words of a session: six of the state, and these. A writer has those of its session, and two
-// more.
+// The eleven words of a session: six of the state, and these.
 const DATA_BYTES: usize = 6;
 const TEXT_BYTES: usize = 7;
 const STEPS: usize = 8;
+/// Kind and phase are one number, from 0 to 7.
 const KIND_AND_PHASE: usize = 9;
+const TAG_BYTES: usize = 10;
+
+// The twelve words of a writer: the first ten of its session, whose tag is full, and these.
 const TICKETS: usize = 10;
 const WRITER_PHASE: usize = 11;
 
@@ -24,6 +27,7 @@ pub struct Held {
     pub phase: Phase,
     pub data_bytes: u64,
     pub text_bytes: u64,
+    pub tag_bytes: u64,
     pub steps: u64,
     /// S0 to S292; `None` once closed, where they are left to choice.
     pub bits: Option<[bool; STATE_BITS]>,
@@ -31,7 +35,7 @@ pub struct Held {
 
 impl Held {
     /// What the library's session holds in its words.
-    pub fn in_words(words: &[u64]) -> Held {
+    pub fn in_words(words: &[u64; 11]) -> Held {
         let number = words[KIND_AND_PHASE];
         let (kind, phase) = match number {
             0 => (Kind::Sealing, Phase::Fresh),
@@ -42,7 +46,7 @@ impl Held {
             5 => (Kind::Checking, Phase::Data),
             6 => (Kind::Checking, Phase::Text),
             7 => (Kind::Checking, Phase::Closed),
-            _ => panic!("no kind and phase has number {number}"),
+            _ => panic!("no kind and phase have number {number}"),
         };
         let mut bits = [false; STATE_BITS];
         for (word, ends) in words.iter().zip(FIRST_BITS.windows(2)) {
@@ -56,6 +60,7 @@ impl Held {
             phase,
             data_bytes: words[DATA_BYTES],
             text_bytes: words[TEXT_BYTES],
+            tag_bytes: words[TAG_BYTES],
             steps: words[STEPS],
             bits: (phase != Phase::Closed).then_some(bits),
         }
@@ -68,6 +73,7 @@ impl Held {
             phase: machine.phase(),
             data_bytes: machine.data_bytes(),
             text_bytes: machine.text_bytes(),
+            tag_bytes: machine.tag_bytes() as u64,
             steps: machine.steps(),
             bits: (machine.phase() != Phase::Closed).then(|| machine.bits()),
         }
@@ -84,7 +90,7 @@ pub struct WriterHeld {
 
 impl WriterHeld {
     /// What the library's writer holds in its words.
-    pub fn in_words(words: &[u64]) -> WriterHeld {
+    pub fn in_words(words: &[u64; 12]) -> WriterHeld {
         let number = words[WRITER_PHASE];
         WriterHeld {
             phase: match number {

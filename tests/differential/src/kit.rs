@@ -7,6 +7,7 @@ mod messages;
 mod openings;
 mod packed;
 mod readings;
+mod short_tags;
 mod tapes;
 mod trucks;
 
@@ -39,6 +40,8 @@ pub fn files() -> Vec<File> {
         messages::refused_messages(),
         packed::packed(),
         lists::calls(),
+        short_tags::short_tags(),
+        short_tags::short_tag_calls(),
         readings::readings(),
     ];
     let tapes = tapes::tapes();

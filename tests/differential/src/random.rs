@@ -74,6 +74,19 @@ impl Random {
         block
     }
 
+    /// A length that a tag may have.
+    pub fn tag_bytes(&mut self) -> usize {
+        8 + self.below(9)
+    }
+
+    /// A length for a tag; rarely one that it may not have.
+    pub fn any_tag_bytes(&mut self) -> usize {
+        match self.once_in(6) {
+            true => self.pick(&WRONG_TAG_BYTES),
+            false => self.tag_bytes(),
+        }
+    }
+
     /// A valid head.
     pub fn head(&mut self) -> Head {
         Head {
@@ -182,6 +195,26 @@ impl Random {
         ticket
     }
 }
+
+/// Lengths that no tag has: around 8 to 16, 64 and 128 as if they were bits, and those that are 8 or
+/// 16 if their upper bits are lost.
+pub const WRONG_TAG_BYTES: [usize; 15] = [
+    0,
+    1,
+    4,
+    7,
+    17,
+    18,
+    24,
+    32,
+    64,
+    128,
+    256 + 8,
+    256 + 16,
+    65_536 + 8,
+    (1 << 32) + 16,
+    usize::MAX,
+];
 
 const EDGES_OF_SHIFT_AND_SHEET: [u32; 9] = [
     0,

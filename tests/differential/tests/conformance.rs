@@ -123,6 +123,44 @@ fn refused_messages() {
 }
 
 #[test]
+fn short_tags() {
+    // messages, by the length of the tag; refusals, by their number
+    let (mut messages, mut refused) = ([0; 17], [0; 10]);
+    for fields in lines("short_tags.txt") {
+        let fields: Vec<&str> = fields.iter().map(String::as_str).collect();
+        match fields[..] {
+            ["message", length, key, nonce, data, text, ciphertext, tag] => {
+                let tag_bytes: usize = number(length);
+                let [key, nonce, data, text] = [key, nonce, data, text].map(bytes_of);
+                assert_eq!(bytes_of(tag).len(), tag_bytes);
+                let sealed = [bytes_of(ciphertext), bytes_of(tag)].concat();
+                let ran = both::seal_tag(&key, &nonce, &data, &text, tag_bytes, sealed.len());
+                assert_eq!((ran.answer, &ran.out), (Ok(sealed.len()), &sealed));
+                let ran = both::open_tag(&key, &nonce, &data, &sealed, tag_bytes, text.len());
+                assert_eq!((ran.answer, ran.out), (Ok(text.len()), text));
+                messages[tag_bytes] += 1;
+            }
+            ["refused", expected, call, length, key, nonce, data, input, room] => {
+                let (tag_bytes, room) = (number(length), number(room));
+                let [key, nonce, data, input] = [key, nonce, data, input].map(bytes_of);
+                let ran = match call {
+                    "seal_tag" => both::seal_tag(&key, &nonce, &data, &input, tag_bytes, room),
+                    "open_tag" => both::open_tag(&key, &nonce, &data, &input, tag_bytes, room),
+                    _ => panic!("no call: {call}"),
+                };
+                assert_eq!(ran.answer, Err(number(expected)), "{fields:?}");
+                refused[number::<usize>(expected)] += 1;
+            }
+            _ => panic!("no line: {fields:?}"),
+        }
+    }
+    assert!(messages[8..].iter().all(|&some| some >= 10), "{messages:?}");
+    for number in [2, 5, 6, 7, 9] {
+        assert!(refused[number] >= 10, "{refused:?}");
+    }
+}
+
+#[test]
 fn packed() {
     for fields in lines("packed.txt") {
         let (first, rest) = fields.split_first().unwrap();
@@ -165,6 +203,11 @@ fn session_call(fields: &[String]) -> SessionCall {
         "begin" => SessionCall::Begin {
             key: bytes(1),
             nonce: bytes(2),
+        },
+        "begin_tag" => SessionCall::BeginTag {
+            key: bytes(1),
+            nonce: bytes(2),
+            tag_bytes: number(&fields[3]),
         },
         "data" => SessionCall::Data { piece: bytes(1) },
         "seal_text" => SessionCall::SealText {
@@ -247,9 +290,18 @@ enum List {
 
 #[test]
 fn calls() {
+    lists_of_calls("calls.txt");
+}
+
+#[test]
+fn short_tag_calls() {
+    lists_of_calls("short_tag_calls.txt");
+}
+
+fn lists_of_calls(name: &str) {
     let mut list = None;
     let mut begun = None;
-    for fields in lines("calls.txt") {
+    for fields in lines(name) {
         if fields[0] == "list" {
             list = Some(match fields[1].as_str() {
                 "sealing" => List::Session(Sessions::fresh(Kind::Sealing)),
@@ -266,7 +318,7 @@ fn calls() {
             List::Writer(writers) if call[0] == "fill" => fill(writers, call),
             List::Writer(writers) => writers.call(&writer_call(call)),
         };
-        if call[0] == "begin" && ran.answer.is_ok() {
+        if ["begin", "begin_tag"].contains(&call[0].as_str()) && ran.answer.is_ok() {
             begun = Some((bytes_of(&call[1]), bytes_of(&call[2])));
         }
         answered(&ran, answer, &begun);

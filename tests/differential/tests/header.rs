@@ -19,6 +19,7 @@ fn constants_are_those_of_the_header() {
         ("KEY_BYTES", KEY_BYTES),
         ("NONCE_BYTES", NONCE_BYTES),
         ("TAG_BYTES", TAG_BYTES),
+        ("LEAST_TAG_BYTES", LEAST_TAG_BYTES),
         ("TICKET_BYTES", TICKET_BYTES),
         ("HEAD_BYTES", HEAD_BYTES),
         ("MOST_BYTES", MOST_BYTES),

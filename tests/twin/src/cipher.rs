@@ -173,23 +173,30 @@ fn end(state: &mut State, cb: bool) {
     }
 }
 
-/// Final: 768 zeros; ca = cb = 1. The last 128 keystream bits are the tag.
-pub fn finish(state: &mut State) -> [u8; 16] {
+/// Final: 768 zeros; ca = cb = 1. The last t keystream bits are the tag (document 003, section
+/// 1.3.6); here t is given in bytes, 16 for document 01's 128 bits.
+pub fn finish(state: &mut State, tag_bytes: usize) -> Vec<u8> {
     let ks: Vec<bool> = (0..FINAL_STEPS)
         .map(|_| state.step(|_| false, true, true))
         .collect();
-    let tag = bytes_of(&ks[ks.len() - 128..]);
-    tag.try_into().expect("128 bits are 16 bytes")
+    let t = 8 * tag_bytes;
+    bytes_of(&ks[ks.len() - t..])
 }
 
 /// Seals a message: all the stretches in turn. Answers ciphertext and tag.
-pub fn seal(key: &[u8; 16], nonce: &[u8; 16], data: &[u8], text: &[u8]) -> (Vec<u8>, [u8; 16]) {
+pub fn seal(
+    key: &[u8; 16],
+    nonce: &[u8; 16],
+    data: &[u8],
+    text: &[u8],
+    tag_bytes: usize,
+) -> (Vec<u8>, Vec<u8>) {
     let mut state = start(key, nonce);
     self::data(&mut state, data);
     data_end(&mut state);
     let ciphertext = seal_text(&mut state, text);
     text_end(&mut state);
-    let tag = finish(&mut state);
+    let tag = finish(&mut state, tag_bytes);
     (ciphertext, tag)
 }
 
@@ -200,13 +207,14 @@ pub fn open(
     nonce: &[u8; 16],
     data: &[u8],
     ciphertext: &[u8],
-) -> (Vec<u8>, [u8; 16]) {
+    tag_bytes: usize,
+) -> (Vec<u8>, Vec<u8>) {
     let mut state = start(key, nonce);
     self::data(&mut state, data);
     data_end(&mut state);
     let text = open_text(&mut state, ciphertext);
     text_end(&mut state);
-    let tag = finish(&mut state);
+    let tag = finish(&mut state, tag_bytes);
     (text, tag)
 }
 
@@ -238,8 +246,11 @@ mod tests {
         assert_eq!(state.steps(), 1_792 + 40 + 256 + 56);
         text_end(&mut state);
         assert_eq!(state.steps(), 1_792 + 40 + 256 + 56 + 256);
-        finish(&mut state);
-        assert_eq!(state.steps(), 3_072 + 8 * (5 + 7));
+        for tag_bytes in 8..=16 {
+            let mut state = state.clone();
+            assert_eq!(finish(&mut state, tag_bytes).len(), tag_bytes);
+            assert_eq!(state.steps(), 3_072 + 8 * (5 + 7));
+        }
     }
 
     #[test]
@@ -263,12 +274,13 @@ mod tests {
             for text_bytes in [0, 1, 2, 3, 4, 5, 7, 8, 15, 16, 17, 31, 32, 33] {
                 let (key, nonce) = (random.block(), random.block());
                 let (data, text) = (random.bytes(data_bytes), random.bytes(text_bytes));
-                let (ciphertext, tag) = seal(&key, &nonce, &data, &text);
+                let t = 8 + random.below(9);
+                let (ciphertext, tag) = seal(&key, &nonce, &data, &text, t);
                 assert_eq!(
-                    (ciphertext.clone(), tag),
-                    paper_seal(&key, &nonce, &data, &text)
+                    (ciphertext.clone(), tag.clone()),
+                    paper_seal(&key, &nonce, &data, &text, t)
                 );
-                assert_eq!(open(&key, &nonce, &data, &ciphertext), (text, tag));
+                assert_eq!(open(&key, &nonce, &data, &ciphertext, t), (text, tag));
             }
         }
         for _ in 0..40 {
@@ -276,9 +288,31 @@ mod tests {
             let (data_bytes, text_bytes) = (random.below(400), random.below(400));
             let (data, text) = (random.bytes(data_bytes), random.bytes(text_bytes));
             assert_eq!(
-                seal(&key, &nonce, &data, &text),
-                paper_seal(&key, &nonce, &data, &text)
+                seal(&key, &nonce, &data, &text, 16),
+                paper_seal(&key, &nonce, &data, &text, 16)
             );
+        }
+    }
+
+    #[test]
+    fn a_short_tag_is_the_last_bytes_of_the_sixteen() {
+        let mut random = XorShift::new(13);
+        for _ in 0..10 {
+            let (key, nonce) = (random.block(), random.block());
+            let (data_bytes, text_bytes) = (random.below(40), random.below(40));
+            let (data, text) = (random.bytes(data_bytes), random.bytes(text_bytes));
+            let (ciphertext, sixteen) = seal(&key, &nonce, &data, &text, 16);
+            for tag_bytes in 8..=16 {
+                let tag = sixteen[16 - tag_bytes..].to_vec();
+                assert_eq!(
+                    paper_seal(&key, &nonce, &data, &text, tag_bytes),
+                    (ciphertext.clone(), tag.clone())
+                );
+                assert_eq!(
+                    seal(&key, &nonce, &data, &text, tag_bytes),
+                    (ciphertext.clone(), tag)
+                );
+            }
         }
     }
 

@@ -1,7 +1,9 @@
 //! The one-step machine (document 01, "The one-step machine and the session").
 //!
-//! In every call the tests for a refusal stand first, in the order of their numbers, so that the
-//! smallest one that applies is answered. Only then does anything change.
+//! In every call the tests for a refusal stand first, in the order of their numbers (9 right after
+//! 1), so that the first one that applies is answered. Only then does anything change.
+//!
+//! The length of the tag is fixed at begin (document 02, P4).
 
 use crate::cipher::{self, State, STATE_BITS};
 use crate::number;
@@ -29,13 +31,14 @@ pub struct Done {
     pub steps: u64,
 }
 
-/// The 293 bits with their count of steps, the phase, and the bytes taken.
+/// The 293 bits with their count of steps, the phase, the bytes taken, and the length of the tag.
 #[derive(Clone, PartialEq, Eq, Debug)]
 pub struct Machine {
     kind: Kind,
     phase: Phase,
     data_bytes: u64,
     text_bytes: u64,
+    tag_bytes: usize,
     state: State,
 }
 
@@ -47,6 +50,7 @@ impl Machine {
             phase: Phase::Fresh,
             data_bytes: 0,
             text_bytes: 0,
+            tag_bytes: number::MAX_TAG_BYTES,
             state: State::zeros(),
         }
     }
@@ -69,6 +73,11 @@ impl Machine {
         self.text_bytes
     }
 
+    /// The length of the tag: 16 until a begin fixes another.
+    pub fn tag_bytes(&self) -> usize {
+        self.tag_bytes
+    }
+
     /// Steps run since the machine was fresh.
     pub fn steps(&self) -> u64 {
         self.state.steps()
@@ -79,16 +88,23 @@ impl Machine {
         self.state.bits()
     }
 
-    /// begin: in fresh only; runs start; phase data.
+    /// begin with a tag of 16 bytes.
     pub fn begin(&mut self, key: &[u8], nonce: &[u8]) -> Result<Done, u8> {
+        self.begin_tag(key, nonce, number::MAX_TAG_BYTES)
+    }
+
+    /// begin: in fresh only; fixes the length of the tag; runs start; phase data.
+    pub fn begin_tag(&mut self, key: &[u8], nonce: &[u8], tag_bytes: usize) -> Result<Done, u8> {
         if self.phase != Phase::Fresh {
             return Err(number::PHASE);
         }
+        number::allow_tag_bytes(tag_bytes)?;
         let (Ok(key), Ok(nonce)) = (key.try_into(), nonce.try_into()) else {
             return Err(number::LENGTH);
         };
 
         self.state = cipher::start(key, nonce);
+        self.tag_bytes = tag_bytes;
         self.phase = Phase::Data;
         Ok(self.done(0))
     }
@@ -137,22 +153,22 @@ impl Machine {
         Ok(self.done(0))
     }
 
-    /// close of a sealing machine: in data or text; phase closed. Writes the 16 bytes of the tag.
+    /// close of a sealing machine: in data or text; phase closed. Writes the tag, of the length fixed.
     pub fn seal_close(&mut self, out: &mut [u8]) -> Result<Done, u8> {
         self.allow_text_or_close(Kind::Sealing)?;
-        if out.len() < 16 {
+        if out.len() < self.tag_bytes {
             return Err(number::OUTPUT);
         }
 
         let tag = self.end_text_and_finish();
-        out[..16].copy_from_slice(&tag);
-        Ok(self.done(16))
+        out[..tag.len()].copy_from_slice(&tag);
+        Ok(self.done(tag.len()))
     }
 
     /// close of a checking machine: in data or text; phase closed, whether the tag matches or not.
     pub fn check_close(&mut self, tag: &[u8]) -> Result<Done, u8> {
         self.allow_text_or_close(Kind::Checking)?;
-        if tag.len() != 16 {
+        if tag.len() != self.tag_bytes {
             return Err(number::LENGTH);
         }
 
@@ -181,10 +197,10 @@ impl Machine {
     }
 
     /// Runs all that is left; phase closed. Answers the tag and leaves zeros as the 293 bits.
-    fn end_text_and_finish(&mut self) -> [u8; 16] {
+    fn end_text_and_finish(&mut self) -> Vec<u8> {
         self.end_data();
         cipher::text_end(&mut self.state);
-        let tag = cipher::finish(&mut self.state);
+        let tag = cipher::finish(&mut self.state, self.tag_bytes);
         self.state.wipe();
         self.phase = Phase::Closed;
         tag
@@ -262,6 +278,9 @@ mod tests {
                 if phase != Phase::Fresh {
                     refused(&machine, 1, |m| m.begin(&KEY, &NONCE));
                     refused(&machine, 1, |m| m.begin(&[], &[]));
+                    refused(&machine, 1, |m| m.begin_tag(&KEY, &NONCE, 8));
+                    refused(&machine, 1, |m| m.begin_tag(&KEY, &NONCE, 7));
+                    refused(&machine, 1, |m| m.begin_tag(&[], &[], 17));
                 }
                 if phase != Phase::Data {
                     refused(&machine, 1, |m| m.data(&[]));
@@ -298,6 +317,103 @@ mod tests {
             for length in [0, 15, 17, 32] {
                 refused(&machine, 2, |m| m.check_close(&vec![0; length]));
             }
+        }
+    }
+
+    #[test]
+    fn number_9_right_after_1() {
+        for kind in KINDS {
+            let machine = in_phase(kind, Phase::Fresh);
+            for wrong in [0, 1, 7, 17, 24, 64, 128, 264, 65_544, usize::MAX] {
+                refused(&machine, 9, |m| m.begin_tag(&KEY, &NONCE, wrong));
+                refused(&machine, 9, |m| m.begin_tag(&[], &NONCE, wrong));
+                refused(&machine, 9, |m| m.begin_tag(&KEY, &[0; 17], wrong));
+            }
+            for length in 8..=16 {
+                refused(&machine, 2, |m| m.begin_tag(&KEY[1..], &NONCE, length));
+                refused(&machine, 2, |m| m.begin_tag(&KEY, &[0; 17], length));
+            }
+        }
+    }
+
+    #[test]
+    fn an_accepted_begin_fixes_the_length() {
+        for kind in KINDS {
+            assert_eq!(Machine::fresh(kind).tag_bytes(), 16);
+            for length in 8..=16 {
+                let mut machine = Machine::fresh(kind);
+                // Refused, and fixing nothing: `refused` compares the lengths, too.
+                refused(&machine, 2, |m| m.begin_tag(&[], &NONCE, 8));
+                refused(&machine, 9, |m| m.begin_tag(&KEY, &NONCE, 7));
+                let done = machine.begin_tag(&KEY, &NONCE, length);
+                let steps = 1_792;
+                assert_eq!(done, Ok(Done { bytes: 0, steps }));
+                assert_eq!(machine.tag_bytes(), length);
+                refused(&machine, 1, |m| m.begin_tag(&KEY, &NONCE, 24 - length));
+                refused(&machine, 1, |m| m.begin(&KEY, &NONCE));
+
+                let answer = match kind {
+                    Kind::Sealing => machine.seal_close(&mut [0; 16]).map(|done| done.bytes),
+                    Kind::Checking => machine.check_close(&vec![0; length]).map(|_| 0),
+                };
+                let expected = match kind {
+                    Kind::Sealing => Ok(length),
+                    Kind::Checking => Err(7),
+                };
+                assert_eq!(answer, expected);
+                assert_eq!(machine.tag_bytes(), length);
+                refused(&machine, 1, |m| m.begin_tag(&KEY, &NONCE, 24 - length));
+            }
+        }
+        let mut machine = Machine::fresh(Kind::Sealing);
+        assert_eq!(machine.begin_tag(&[], &[], 8), Err(2));
+        machine.begin(&KEY, &NONCE).unwrap();
+        assert_eq!(machine.seal_close(&mut [0; 40]).unwrap().bytes, 16);
+    }
+
+    /// A close at every length: the output, the tag, and what is too short, too long or differs.
+    #[test]
+    fn a_close_uses_the_length_fixed() {
+        let (_, sixteen) = cipher::seal(&KEY, &NONCE, b"data", b"text", 16);
+        let begun = |kind, length| {
+            let mut machine = Machine::fresh(kind);
+            machine.begin_tag(&KEY, &NONCE, length).unwrap();
+            machine.data(b"data").unwrap();
+            machine
+        };
+        let steps = 3_072 + 8 * 8;
+        for length in 8..=16 {
+            let tag = &sixteen[16 - length..];
+            let mut sealing = begun(Kind::Sealing, length);
+            let mut ciphertext = [0; 4];
+            sealing.seal_text(b"text", &mut ciphertext).unwrap();
+            for room in [0, 7, length - 1] {
+                refused(&sealing, 6, |m| m.seal_close(&mut vec![0; room]));
+            }
+            for room in [length, length + 1, 16, 40] {
+                let mut out = vec![0xAA; room];
+                let done = sealing.clone().seal_close(&mut out);
+                let bytes = length;
+                assert_eq!(done, Ok(Done { bytes, steps }));
+                assert_eq!(out[..length], *tag);
+                assert_eq!(out[length..], [0xAA; 40][length..room]);
+            }
+
+            let mut checking = begun(Kind::Checking, length);
+            checking.check_text(&ciphertext).unwrap();
+            for other in (0..=17).filter(|&other| other != length) {
+                let padded = [&[0], &sixteen[..]].concat();
+                refused(&checking, 2, |m| m.check_close(&padded[17 - other..]));
+            }
+            for bit in 0..8 * length {
+                let mut other = tag.to_vec();
+                other[bit / 8] ^= 1 << (bit % 8);
+                let mut machine = checking.clone();
+                assert_eq!(machine.check_close(&other), Err(7));
+                assert_eq!((machine.phase(), machine.steps()), (Phase::Closed, steps));
+            }
+            let done = checking.check_close(tag);
+            assert_eq!(done, Ok(Done { bytes: 0, steps }));
         }
     }
 
@@ -414,15 +530,16 @@ mod tests {
             let (key, nonce) = (random.block(), random.block());
             let (data_bytes, text_bytes) = (random.below(100), random.below(200));
             let (data, text) = (random.bytes(data_bytes), random.bytes(text_bytes));
-            let mut whole = vec![0; text.len() + 16];
-            let written = message::seal(&key, &nonce, &data, &text, &mut whole).unwrap();
+            let t = 8 + round % 9;
+            let mut whole = vec![0; text.len() + t];
+            let written = message::seal_tag(&key, &nonce, &data, &text, t, &mut whole).unwrap();
             assert_eq!(written, whole.len());
 
             let mut sealing = Machine::fresh(Kind::Sealing);
             let mut checking = Machine::fresh(Kind::Checking);
             let mut expected = 1_792;
-            assert_eq!(sealing.begin(&key, &nonce).unwrap().steps, expected);
-            checking.begin(&key, &nonce).unwrap();
+            assert_eq!(sealing.begin_tag(&key, &nonce, t).unwrap().steps, expected);
+            checking.begin_tag(&key, &nonce, t).unwrap();
             for piece in pieces(&mut random, &data) {
                 // Refused calls in between leave no trace.
                 if random.below(4) == 0 {
@@ -442,7 +559,7 @@ mod tests {
             for piece in pieces(&mut random, &text) {
                 if random.below(4) == 0 {
                     assert_eq!(sealing.seal_text(&[7; 3], &mut [0; 2]), Err(6));
-                    assert_eq!(checking.check_close(&[0; 15]), Err(2));
+                    assert_eq!(checking.check_close(&vec![0; t - 1]), Err(2));
                 }
                 expected += 8 * piece.len() as u64;
                 let mut out = [0; 64];
@@ -453,18 +570,18 @@ mod tests {
                 assert_eq!(sealing.bits(), checking.bits());
                 assert_eq!(sealing.data(piece), Err(1));
             }
-            let mut tag = [0; 16];
+            let mut tag = vec![0; t];
             let done = sealing.seal_close(&mut tag).unwrap();
             sealed.extend_from_slice(&tag);
             assert_eq!(sealed, whole);
             let steps = 3_072 + 8 * (data.len() + text.len()) as u64;
-            assert_eq!(done, Done { bytes: 16, steps });
+            assert_eq!(done, Done { bytes: t, steps });
 
             if round % 2 == 0 {
                 let done = checking.check_close(&tag).unwrap();
                 assert_eq!(done, Done { bytes: 0, steps });
             } else {
-                tag[random.below(16)] ^= 1 << random.below(8);
+                tag[random.below(t)] ^= 1 << random.below(8);
                 assert_eq!(checking.check_close(&tag), Err(7));
                 assert_eq!(checking.steps(), steps);
             }

@@ -1,4 +1,7 @@
-//! The refusal numbers and the limits that go with them (document 01, "What sends a call back").
+//! The refusal numbers and the limits that go with them (document 01, "What sends a call back";
+//! 9 is from document 02, P4).
+//!
+//! The smallest number that applies is answered, but 9 comes right after 1: before 2.
 
 /// The phase, or the kind of machine, does not allow the call.
 pub const PHASE: u8 = 1;
@@ -17,8 +20,23 @@ pub const OUTPUT: u8 = 6;
 pub const TAG: u8 = 7;
 /// A ticket does not unpack.
 pub const UNPACK: u8 = 8;
+/// A tag length to be fixed is outside 8 to 16 bytes.
+pub const TAG_LENGTH: u8 = 9;
 
 /// The most bytes of data, and the most bytes of text, that one message may have.
 pub const MAX_BYTES: usize = 65_536;
+/// The fewest bytes that a tag may have.
+pub const MIN_TAG_BYTES: usize = 8;
+/// The most bytes that a tag may have: all 128 bits. What names no length means these.
+pub const MAX_TAG_BYTES: usize = 16;
 /// The most tickets that one tape may have.
 pub const MAX_TICKETS: usize = 5_000;
+
+/// Number 9: the length that a call is to fix for a tag.
+pub(crate) fn allow_tag_bytes(tag_bytes: usize) -> Result<(), u8> {
+    if (MIN_TAG_BYTES..=MAX_TAG_BYTES).contains(&tag_bytes) {
+        Ok(())
+    } else {
+        Err(TAG_LENGTH)
+    }
+}

@@ -1,6 +1,7 @@
 //! Known answers of ACORN-128 version 3.
 
 use haul_tape_twin::cipher::{open, paper_seal, seal};
+use haul_tape_twin::machine::{Kind, Machine};
 use haul_tape_twin::message;
 
 /// Key, nonce, data, text, ciphertext, tag, in hexadecimal. The first two are published answers: the
@@ -55,15 +56,6 @@ fn known_answers() {
         let [key, nonce, data, text, ciphertext, tag] = known.map(bytes);
         let key16: [u8; 16] = key[..].try_into().unwrap();
         let nonce16: [u8; 16] = nonce[..].try_into().unwrap();
-        let tag16: [u8; 16] = tag[..].try_into().unwrap();
-        let answer = (ciphertext.clone(), tag16);
-        assert_eq!(seal(&key16, &nonce16, &data, &text), answer);
-        assert_eq!(paper_seal(&key16, &nonce16, &data, &text), answer);
-        assert_eq!(
-            open(&key16, &nonce16, &data, &ciphertext),
-            (text.clone(), tag16)
-        );
-
         let sealed = [&ciphertext[..], &tag].concat();
         let mut out = vec![0; sealed.len()];
         let written = message::seal(&key, &nonce, &data, &text, &mut out);
@@ -71,5 +63,55 @@ fn known_answers() {
         let mut out = vec![0; text.len()];
         let written = message::open(&key, &nonce, &data, &sealed, &mut out);
         assert_eq!((written, &out), (Ok(text.len()), &text));
+
+        // At every length of the tag (document 02, P4): it is the last bytes of the sixteen.
+        for t in 8..=16 {
+            let tag = tag[16 - t..].to_vec();
+            let answer = (ciphertext.clone(), tag.clone());
+            assert_eq!(seal(&key16, &nonce16, &data, &text, t), answer);
+            assert_eq!(paper_seal(&key16, &nonce16, &data, &text, t), answer);
+            assert_eq!(
+                open(&key16, &nonce16, &data, &ciphertext, t),
+                (text.clone(), tag.clone())
+            );
+
+            let sealed = [&ciphertext[..], &tag].concat();
+            let mut out = vec![0; sealed.len()];
+            let written = message::seal_tag(&key, &nonce, &data, &text, t, &mut out);
+            assert_eq!((written, &out), (Ok(sealed.len()), &sealed));
+            let mut out = vec![0; text.len()];
+            let written = message::open_tag(&key, &nonce, &data, &sealed, t, &mut out);
+            assert_eq!((written, &out), (Ok(text.len()), &text));
+
+            let mut sealing = Machine::fresh(Kind::Sealing);
+            sealing.begin_tag(&key, &nonce, t).unwrap();
+            sealing.data(&data).unwrap();
+            let mut out = vec![0; text.len()];
+            sealing.seal_text(&text, &mut out).unwrap();
+            assert_eq!(out, ciphertext);
+            let mut out = vec![0; t];
+            assert_eq!(sealing.seal_close(&mut out).unwrap().bytes, t);
+            assert_eq!(out, tag);
+            let mut checking = Machine::fresh(Kind::Checking);
+            checking.begin_tag(&key, &nonce, t).unwrap();
+            checking.data(&data).unwrap();
+            checking.check_text(&ciphertext).unwrap();
+            assert!(checking.check_close(&tag).is_ok());
+        }
+
+        // Lengths that no tag has.
+        for wrong in [7, 17, 0, usize::MAX] {
+            let mut out = vec![0; 40];
+            let answer = message::seal_tag(&key, &nonce, &data, &text, wrong, &mut out);
+            assert_eq!(answer, Err(9));
+            let answer = message::open_tag(&key, &nonce, &data, &sealed, wrong, &mut out);
+            assert_eq!(answer, Err(9));
+            assert_eq!(out, vec![0; 40]);
+            for kind in [Kind::Sealing, Kind::Checking] {
+                let mut machine = Machine::fresh(kind);
+                assert_eq!(machine.begin_tag(&key, &nonce, wrong), Err(9));
+                assert_eq!(machine, Machine::fresh(kind));
+            }
+        }
     }
 }

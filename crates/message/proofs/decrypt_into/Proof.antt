@@ -9,7 +9,8 @@ use lib.Seq.{length-take-le}
 use borrow.Author.Tests.{not-true, not-false, eqb-true, lt-leb, le-leb}
 use borrow.Author.Needs.{needs}
 use Rattle.calls.proofs.Choices.{both}
-use Rattle.acorn_model.specs.Machine.{keyLength, nonceLength, tagLength, keyAndNonceRight}
+use Rattle.acorn_model.specs.Machine.{keyLength, nonceLength, keyAndNonceRight}
+use Rattle.acorn_model.specs.Stretches.{fullTagLength}
 use Rattle.message.proofs.Decrypting.{not-decrypted, decrypted-right, decrypted-wrong}
 use Rattle.message.proofs.decrypt_into.Statement.{statement}
 use Rattle.message.proofs.decrypt_into.Tie as tie
@@ -62,7 +63,7 @@ after-data-requires c κs =
 slice-aggregate-decrypt : tie.Need-slice-aggregate-decrypt
 slice-aggregate-decrypt c =
     let s = start (c .before .before .before .before) .args .sealed .now in
-    sym (length-take-le (length s - tagLength) s (omega arith))
+    sym (length-take-le (length s - fullTagLength) s (omega arith))
 
 decrypt-requires : tie.Need-decrypt-requires
 decrypt-requires c κs = search needs

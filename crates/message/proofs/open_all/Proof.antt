@@ -1,9 +1,11 @@
 -- `open_all`: of no text the tag alone is left.
-use mathlib.Core.Path.{_≡_, sym, _∙_}
+use mathlib.Core.Path.{_≡_, sym, ap, _∙_}
+use Prim.Native.Nat.{ℕ, _-_}
 use native.Mathlib.Omega.{arith}
 use borrow.Author.Needs.{needs}
 use lib.ListN.{length}
-use Rattle.acorn_model.specs.Machine.{tagLength}
+use Rattle.calls.specs.Calls.{sameBytes}
+use Rattle.acorn_model.specs.Stretches.{through, textEnd, tagBytes}
 use Rattle.acorn_kernel.specs.Together.{stateOf}
 use Rattle.message.proofs.Rest.{tag-alone, nothing-written}
 use Rattle.message.proofs.open_all.Statement.{statement}
@@ -15,8 +17,13 @@ tag-is-requires c κs = search needs
 returns : tie.Need-returns
 returns c =
     let a = c .before .before .before .before .args in
-    let none-left : length (a .sealed .now) ≡ tagLength = omega arith in
-    (c .tag-is .ensures ∙ sym (tag-alone (stateOf (a .s)) (a .sealed .now) none-left), sym (nothing-written (stateOf (a .s)) (a .sealed .now) none-left (a .out .now)))
+    let S = stateOf (a .s) in
+    let s = a .sealed .now in
+    let tagLength = length s - a .left in
+    let none-left : length s ≡ tagLength = omega arith in (
+      c .tag-is .ensures ∙ ap (λ (n : ℕ). sameBytes s (tagBytes n (through textEnd S))) none-left ∙ sym (tag-alone S tagLength s none-left),
+      sym (nothing-written S tagLength s none-left (a .out .now)),
+    )
 
 open-rest-requires : tie.Need-open-rest-requires
 open-rest-requires c κs = search needs

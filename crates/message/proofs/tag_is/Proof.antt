@@ -1,6 +1,7 @@
 -- `tag_is` compares the tag of the state after the text end.
 use mathlib.Core.Path.{ap, _∙_}
-use Rattle.acorn_model.specs.Stretches.{tagOf}
+use Rattle.acorn_model.specs.Bits.{Bits}
+use Rattle.acorn_model.specs.Stretches.{tagBytes}
 use Rattle.calls.specs.Calls.{sameBytes}
 use borrow.Author.Needs.{needs}
 use Rattle.message.proofs.tag_is.Statement.{statement}
@@ -9,24 +10,13 @@ use Rattle.message.proofs.tag_is.Tie as tie
 end-text-requires : tie.Need-end-text-requires
 end-text-requires c κs = search needs
 
-tag-requires : tie.Need-tag-requires
-tag-requires c κs = search needs
-
-slice-aggregate-same-bytes : tie.Need-slice-aggregate-same-bytes
-slice-aggregate-same-bytes c = search needs
-
-same-bytes-requires : tie.Need-same-bytes-requires
-same-bytes-requires c κs = search needs
+is-tag-bytes-requires : tie.Need-is-tag-bytes-requires
+is-tag-bytes-requires c κs = search needs
 
 returns : tie.Need-returns
-returns c = c .same-bytes .ensures ∙ ap (sameBytes (c .before .before .before .before .before .args .tag .now)) (c .before .before .tag .ensures ∙ ap tagOf (c .before .before .before .end-text .ensures))
+returns c =
+    let a = c .before .before .before .args in
+    c .is-tag-bytes .ensures ∙ ap (λ (S : Bits). sameBytes (a .tag .now) (tagBytes (a .tag-length) S)) (c .before .end-text .ensures)
 
 pub tag-is-spec : {M : Type 1} → statement M
-tag-is-spec =
-    tie.close
-    (tie.spec
-    end-text-requires
-    tag-requires
-    slice-aggregate-same-bytes
-    same-bytes-requires
-    returns)
+tag-is-spec = tie.close (tie.spec end-text-requires is-tag-bytes-requires returns)

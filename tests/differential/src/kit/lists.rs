@@ -8,7 +8,7 @@ use crate::random::{turned, Random};
 use haul_tape::Ticket;
 use haul_tape_twin::cipher;
 use haul_tape_twin::machine::{Done, Kind};
-use SessionCall::{Begin, CheckClose, CheckText, Data, SealClose, SealText};
+use SessionCall::{Begin, BeginTag, CheckClose, CheckText, Data, SealClose, SealText};
 use WriterCall::{Add, Finish, Start};
 
 /// A byte field: by rule if it is long.
@@ -23,6 +23,11 @@ fn field(bytes: &[u8]) -> String {
 fn session_line(call: &SessionCall) -> String {
     match call {
         Begin { key, nonce } => line(&[&"begin", &field(key), &field(nonce)]),
+        BeginTag {
+            key,
+            nonce,
+            tag_bytes,
+        } => line(&[&"begin_tag", &field(key), &field(nonce), tag_bytes]),
         Data { piece } => line(&[&"data", &field(piece)]),
         SealText { piece, room } => line(&[&"seal_text", &field(piece), room]),
         SealClose { room } => line(&[&"seal_close", room]),
@@ -51,10 +56,10 @@ fn answered(ran: &Ran<Done>, written: impl FnOnce(&[u8]) -> String) -> String {
 }
 
 /// Lines of the file, list after list.
-struct Lines(Vec<String>);
+pub(super) struct Lines(pub(super) Vec<String>);
 
 impl Lines {
-    fn session(&mut self, title: &str, kind: Kind, calls: &[SessionCall]) {
+    pub(super) fn session(&mut self, title: &str, kind: Kind, calls: &[SessionCall]) {
         self.0.push(format!("\n# {title}"));
         self.0.push(match kind {
             Kind::Sealing => "list sealing".to_string(),
@@ -64,7 +69,8 @@ impl Lines {
         let mut begun: Option<(&[u8], &[u8])> = None;
         for call in calls {
             let ran = sessions.call(call);
-            if let (Begin { key, nonce }, Ok(_)) = (call, &ran.answer) {
+            if let (Begin { key, nonce } | BeginTag { key, nonce, .. }, Ok(_)) = (call, &ran.answer)
+            {
                 begun = Some((key, nonce));
             }
             // bytes too many to print: the tag of a message that has them as its data
@@ -337,6 +343,7 @@ fn sessions(lines: &mut Lines) {
         nonce[..].try_into().expect("16 bytes"),
         &as_data,
         &as_text,
+        16,
     );
     lines.session(
         "As much data and as much text as there may be, in pieces.",

@@ -89,6 +89,7 @@ struct Paper<'a> {
     p: &'a [u8],
     adlen: i64,
     pclen: i64,
+    t: i64,
     m: Row,
     ca: Row,
     cb: Row,
@@ -189,9 +190,9 @@ impl Paper<'_> {
         c
     }
 
-    /// Section 1.3.6, with t = 128. Answers the tag.
-    fn finalization(&mut self) -> [u8; 16] {
-        let (adlen, pclen) = (self.adlen, self.pclen);
+    /// Section 1.3.6. Answers the tag T, the last t keystream bits.
+    fn finalization(&mut self) -> Vec<u8> {
+        let (adlen, pclen, t) = (self.adlen, self.pclen, self.t);
         // 1.
         for i in 0..=767 {
             self.m.set(adlen + pclen + 512 + i, false);
@@ -205,8 +206,7 @@ impl Paper<'_> {
         }
         // 3.
         self.run(adlen + pclen + 512, adlen + pclen + 1279);
-        let t = 128;
-        let mut tag = [0; 16];
+        let mut tag = vec![0; (t / 8) as usize];
         for i in 0..=t - 1 {
             if self.ks.get(adlen + pclen + 1279 - t + 1 + i) {
                 tag[(i / 8) as usize] |= 1 << (i % 8);
@@ -216,13 +216,15 @@ impl Paper<'_> {
     }
 }
 
-/// Seals a message by document 003, sections 1.3.3 to 1.3.6. Answers ciphertext and tag.
+/// Seals a message by document 003, sections 1.3.3 to 1.3.6, with a tag of so many whole bytes.
+/// Answers ciphertext and tag.
 pub fn paper_seal(
     key: &[u8; 16],
     nonce: &[u8; 16],
     data: &[u8],
     text: &[u8],
-) -> (Vec<u8>, [u8; 16]) {
+    tag_bytes: usize,
+) -> (Vec<u8>, Vec<u8>) {
     let adlen = 8 * data.len() as i64;
     let pclen = 8 * text.len() as i64;
     let last = adlen + pclen + 1279;
@@ -233,6 +235,7 @@ pub fn paper_seal(
         p: text,
         adlen,
         pclen,
+        t: 8 * tag_bytes as i64,
         m: Row::up_to(last),
         ca: Row::up_to(last),
         cb: Row::up_to(last),
@@ -242,6 +245,6 @@ pub fn paper_seal(
     paper.initialization();
     paper.processing_the_associated_data();
     let c = paper.encryption();
-    let t = paper.finalization();
-    (c, t)
+    let tag = paper.finalization();
+    (c, tag)
 }

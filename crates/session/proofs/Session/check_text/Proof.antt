@@ -7,7 +7,7 @@ use borrow.Author.Needs.{needs}
 use borrow.Author.Tests.{ltb-false, not-true, not-false}
 use lib.ListN.{length}
 use Rattle.calls.specs.Calls.{writtenOver}
-use Rattle.acorn_model.specs.Machine.{checkText, outputOf, isChecking, isData, isText, phaseAllows, sizesRight, byteLimit, overLimit, outputShort, textTaken, work}
+use Rattle.acorn_model.specs.Machine.{checkText, outputOf, isChecking, isData, isText, phaseAllows, fixesRight, sizesRight, byteLimit, overLimit, outputShort, textTaken, work}
 use Rattle.acorn_model.proofs.Refusals.{Passed}
 use Rattle.calls.proofs.Choices.{both}
 use Rattle.session.specs.Contracts.{machineOf}
@@ -27,9 +27,9 @@ unfolding machineOf overLimit
 over-is c = sym (c .over-limit .ensures)
 
 accepted : (c : tie.Else2) → let a = c .before .before .before .before .before .before .args in Passed (machineOf (a .self)) (checkText (a .piece .now))
-unfolding sizesRight outputShort
+unfolding fixesRight sizesRight outputShort
 accepted c =
-    record { phase = allowed-is (c .before .before .before) ∙ not-false _ (c .before .before .if1 .left); sizes = refl; limit = over-is (c .before) ∙ c .if2 .left; output = refl }
+    record { phase = allowed-is (c .before .before .before) ∙ not-false _ (c .before .before .if1 .left); fixes = refl; sizes = refl; limit = over-is (c .before) ∙ c .if2 .left; output = refl }
 
 -- the piece of an accepted call
 fits : (c : tie.Else2) → let a = c .before .before .before .before .before .before .args in a .self .«text_bytes» + length (a .piece .now) ≤ byteLimit
@@ -56,10 +56,10 @@ refused-requires-2 : tie.Need-refused-requires-2
 refused-requires-2 c κs = search needs
 
 returns-2 : tie.Need-returns-2
-unfolding outputOf sizesRight
+unfolding outputOf fixesRight sizesRight
 returns-2 c =
     let over = c .before .before in
-    refused-5 _ _ _ (c .refused2 .ensures) (allowed-is (over .before .before) ∙ not-false _ (over .before .if1 .left)) refl (over-is over ∙ c .before .if2 .taken)
+    refused-5 _ _ _ (c .refused2 .ensures) (allowed-is (over .before .before) ∙ not-false _ (over .before .if1 .left)) refl refl (over-is over ∙ c .before .if2 .taken)
 
 ciphertext-taken-requires : tie.Need-ciphertext-taken-requires
 ciphertext-taken-requires c κs = search needs

@@ -7,7 +7,7 @@ use borrow.Author.Needs.{needs}
 use borrow.Author.Tests.{ltb-false, not-true, not-false}
 use lib.ListN.{length}
 use Rattle.calls.specs.Calls.{writtenOver}
-use Rattle.acorn_model.specs.Machine.{dataCall, outputOf, phaseAllows, sizesRight, byteLimit, overLimit, outputShort, runThrough, countData, dataTaken, work}
+use Rattle.acorn_model.specs.Machine.{dataCall, outputOf, phaseAllows, fixesRight, sizesRight, byteLimit, overLimit, outputShort, runThrough, countData, dataTaken, work}
 use Rattle.acorn_model.proofs.Refusals.{Passed}
 use Rattle.session.specs.Contracts.{machineOf, wrapped}
 use Rattle.session.proofs.NextSession.{stands-for}
@@ -25,9 +25,9 @@ unfolding machineOf overLimit
 over-is c = sym (c .over-limit .ensures)
 
 accepted : (c : tie.Else2) → let a = c .before .before .before .before .before .args in Passed (machineOf (a .self)) (dataCall (a .piece .now))
-unfolding sizesRight outputShort
+unfolding fixesRight sizesRight outputShort
 accepted c =
-    record { phase = allowed-is (c .before .before .before) ∙ not-false _ (c .before .before .if1 .left); sizes = refl; limit = over-is (c .before) ∙ c .if2 .left; output = refl }
+    record { phase = allowed-is (c .before .before .before) ∙ not-false _ (c .before .before .if1 .left); fixes = refl; sizes = refl; limit = over-is (c .before) ∙ c .if2 .left; output = refl }
 
 -- the piece of an accepted call
 fits : (c : tie.Else2) → let a = c .before .before .before .before .before .args in a .self .«data_bytes» + length (a .piece .now) ≤ byteLimit
@@ -51,10 +51,10 @@ refused-requires-2 : tie.Need-refused-requires-2
 refused-requires-2 c κs = search needs
 
 returns-2 : tie.Need-returns-2
-unfolding outputOf sizesRight
+unfolding outputOf fixesRight sizesRight
 returns-2 c =
     let over = c .before .before in
-    refused-5 _ _ _ (c .refused2 .ensures) (allowed-is (over .before .before) ∙ not-false _ (over .before .if1 .left)) refl (over-is over ∙ c .before .if2 .taken)
+    refused-5 _ _ _ (c .refused2 .ensures) (allowed-is (over .before .before) ∙ not-false _ (over .before .if1 .left)) refl refl (over-is over ∙ c .before .if2 .taken)
 
 absorb-data-requires : tie.Need-absorb-data-requires
 absorb-data-requires c κs = search needs
@@ -77,7 +77,7 @@ returns-3 c =
     let accept = c .before .before .before .before in
     let a = accept .before .before .before .before .before .args in
     let next = dataTaken (a .piece .now) (machineOf (a .self)) in
-    let after = stands-for _ next refl refl (c .before .before .absorb-data .ensures) refl refl (c .before .wrapping-add-u64 .ensures) in
+    let after = stands-for _ next refl refl refl (c .before .before .absorb-data .ensures) refl refl (c .before .wrapping-add-u64 .ensures) in
     writes (a .self) (accepted accept) [] [] next refl _ after 0 refl [] refl _ (c .done .ensures)
 
 pub data-spec : {M : Type 1} → statement M

@@ -43,9 +43,15 @@ element-copy-out-phase-in c = search needs
 phase-in-requires : tie.Need-phase-in-requires
 phase-in-requires c κs = search needs
 
+element-copy-out-t40 : tie.Need-element-copy-out-t40
+element-copy-out-t40 c = search needs
+
+cast-t42 : tie.Need-cast-t42
+cast-t42 c = search needs
+
 returns : tie.Need-returns
 unfolding sessionIn
-returns c = rw (c .phase-in .ensures, c .before .before .kind-in .ensures)
+returns c = rw (c .before .phase-in .ensures, c .before .before .before .kind-in .ensures)
 
 pub from-words-spec : {M : Type 1} → statement M
 from-words-spec =
@@ -64,4 +70,6 @@ from-words-spec =
     kind-in-requires
     element-copy-out-phase-in
     phase-in-requires
+    element-copy-out-t40
+    cast-t42
     returns)

@@ -5,7 +5,7 @@ use Prim.Native.Nat.{_+_}
 use borrow.Author.Needs.{needs}
 use borrow.Author.Tests.{ltb-false, not-true, not-false}
 use lib.ListN.{length}
-use Rattle.acorn_model.specs.Machine.{sealText, outputOf, isData, isText, phaseAllows, sizesRight, byteLimit, overLimit, outputShort, dataEnded, textTaken, work}
+use Rattle.acorn_model.specs.Machine.{sealText, outputOf, isData, isText, phaseAllows, fixesRight, sizesRight, byteLimit, overLimit, outputShort, dataEnded, textTaken, work}
 use Rattle.acorn_model.proofs.Refusals.{Passed}
 use Rattle.acorn_model.proofs.Outputs.{textOut-length}
 use Rattle.session.specs.Contracts.{machineOf}
@@ -25,10 +25,10 @@ unfolding machineOf overLimit
 over-is c = sym (c .over-limit .ensures)
 
 accepted : (c : tie.Else3) → let a = c .before .before .before .before .before .before .before .before .args in Passed (machineOf (a .self)) (sealText (a .piece .now) (a .out .now))
-unfolding sizesRight outputShort
+unfolding fixesRight sizesRight outputShort
 accepted c =
     let over = c .before .before .before in
-    record { phase = allowed-is (over .before) ∙ not-false _ (c .before .before .if1 .left); sizes = refl; limit = over-is over ∙ c .before .if2 .left; output = c .if3 .left }
+    record { phase = allowed-is (over .before) ∙ not-false _ (c .before .before .if1 .left); fixes = refl; sizes = refl; limit = over-is over ∙ c .before .if2 .left; output = c .if3 .left }
 
 is-sealing-requires : tie.Need-is-sealing-requires
 is-sealing-requires c κs = search needs
@@ -50,19 +50,19 @@ refused-requires-2 : tie.Need-refused-requires-2
 refused-requires-2 c κs = search needs
 
 returns-2 : tie.Need-returns-2
-unfolding outputOf sizesRight
+unfolding outputOf fixesRight sizesRight
 returns-2 c =
     let over = c .before .before .before in
-    refused-5 _ _ _ (c .refused2 .ensures) (allowed-is (over .before) ∙ not-false _ (c .before .before .if1 .left)) refl (over-is over ∙ c .before .if2 .taken)
+    refused-5 _ _ _ (c .refused2 .ensures) (allowed-is (over .before) ∙ not-false _ (c .before .before .if1 .left)) refl refl (over-is over ∙ c .before .if2 .taken)
 
 refused-requires-3 : tie.Need-refused-requires-3
 refused-requires-3 c κs = search needs
 
 returns-3 : tie.Need-returns-3
-unfolding outputOf sizesRight outputShort
+unfolding outputOf fixesRight sizesRight outputShort
 returns-3 c =
     let over = c .before .before .before .before in
-    refused-6 _ _ _ (c .refused3 .ensures) (allowed-is (over .before) ∙ not-false _ (c .before .before .before .if1 .left)) refl (over-is over ∙ c .before .before .if2 .left) (c .before .if3 .taken)
+    refused-6 _ _ _ (c .refused3 .ensures) (allowed-is (over .before) ∙ not-false _ (c .before .before .before .if1 .left)) refl refl (over-is over ∙ c .before .before .if2 .left) (c .before .if3 .taken)
 
 data-ended-requires : tie.Need-data-ended-requires
 data-ended-requires c κs = search needs

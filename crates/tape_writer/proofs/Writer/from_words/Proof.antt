@@ -32,8 +32,8 @@ element-copy-out-t26 c = search needs
 element-copy-out-t29 : tie.Need-element-copy-out-t29
 element-copy-out-t29 c = search needs
 
-element-copy-out-phase-in : tie.Need-element-copy-out-phase-in
-element-copy-out-phase-in c = search needs
+element-copy-out-t32 : tie.Need-element-copy-out-t32
+element-copy-out-t32 c = search needs
 
 from-words-requires : tie.Need-from-words-requires
 from-words-requires c κs = search needs
@@ -41,8 +41,8 @@ from-words-requires c κs = search needs
 element-copy-out-t5-2 : tie.Need-element-copy-out-t5-2
 element-copy-out-t5-2 c = search needs
 
-element-copy-out-phase-in-2 : tie.Need-element-copy-out-phase-in-2
-element-copy-out-phase-in-2 c = search needs
+element-copy-out-phase-in : tie.Need-element-copy-out-phase-in
+element-copy-out-phase-in c = search needs
 
 phase-in-requires : tie.Need-phase-in-requires
 phase-in-requires c κs = search needs
@@ -64,9 +64,9 @@ from-words-spec =
     element-copy-out-t23
     element-copy-out-t26
     element-copy-out-t29
-    element-copy-out-phase-in
+    element-copy-out-t32
     from-words-requires
     element-copy-out-t5-2
-    element-copy-out-phase-in-2
+    element-copy-out-phase-in
     phase-in-requires
     returns)

@@ -1,6 +1,6 @@
 -- `Writer::words` meets its contract.
 use borrow.Author.Needs.{needs}
-use Rattle.session.specs.Words.{wordsOf, wordsFor}
+use Rattle.session.specs.Words.{firstTen, wordsOf, wordsFor}
 use Rattle.tape_writer.specs.Contracts.{writerOf}
 use Rattle.tape_writer.specs.Words.{writerWordsFor}
 use Rattle.tape_writer.proofs.Writer.words.Statement.{statement}
@@ -43,7 +43,7 @@ phase-number-requires : tie.Need-phase-number-requires
 phase-number-requires c κs = search needs
 
 returns : tie.Need-returns
-unfolding writerWordsFor writerOf wordsFor wordsOf
+unfolding writerWordsFor writerOf wordsFor wordsOf firstTen
 returns c = rw (c .before .words .ensures, c .phase-number .ensures)
 
 pub words-spec : {M : Type 1} → statement M
