@@ -29,14 +29,16 @@ enum { LIBRARY, C, RUST, MAKERS };
 
 static uint8_t key[16], nonce[16], text[MOST], sealed[MOST + TAG], tape[HT_MOST_TAPE_BYTES], plain[HT_MOST_PLAIN_BYTES];
 static uint8_t second[HT_MOST_PLAIN_BYTES];    /* plain bytes of another tape, with partly the same trucks */
+static uint8_t again[HT_MOST_TAPE_BYTES];      /* the tape, as another mast heard it */
 static ht_ticket tickets[TICKETS];
 static const ht_head head = { 7, 2, 1 };
 static size_t n;                   /* tickets of a tape */
+static size_t heard;               /* bytes of it that each of two masts heard */
 static size_t textlen, datalen;    /* bytes of a message */
 static size_t each;                /* bytes of a piece */
 static uint8_t out[HT_MOST_LISTING_BYTES], unread[MOST];
 static uint32_t refused;           /* stays 0 while every call is done */
-static uint64_t net;               /* of the tickets, as the last call has it; or its numbers of trucks */
+static uint64_t net;               /* of the tickets, as the last call has it; or its numbers of trucks, or of bytes heard */
 static uint64_t plain_net;         /* of the tickets in the plain bytes */
 
 /* ---- messages ---- */
@@ -249,12 +251,38 @@ static void totals_by_library(void)
     refused |= bench_totals(plain, 13 * n) != plain_net;
 }
 
+/* ---- receptions ---- */
+
+/* The library compares eight bytes at once. Where its loop lies is the linker's choice; a loop across two cache lines may take longer. */
+#define PARTING(maker, parting)                                              \
+    static void parting_by_##maker(void)                                     \
+    {                                                                        \
+        ht_parted r = parting(tape, heard, again, heard);                    \
+        refused |= r.refused;                                                \
+        net = r.place;                                                       \
+    }
+
+PARTING(library, ht_parting)
+PARTING(c, peer_parting)
+PARTING(words, peer_parting_by_words)
+
+#define LONGER(maker, longer)                                                \
+    static void longer_by_##maker(void)                                      \
+    {                                                                        \
+        ht_reception r = longer(tape, heard, again, heard);                  \
+        refused |= r.mast != 1;                                              \
+        net = r.bytes;                                                       \
+    }
+
+LONGER(library, ht_longer)
+LONGER(c, peer_longer)
+
 /* ---- the table ---- */
 
 /* A call or several, the makers that have it, and the sizes that are timed. A program stands in the library's place; it makes RUNS runs. */
 typedef struct {
     const char *what;
-    enum { TEXT, DATA, TAPE } given;
+    enum { TEXT, DATA, TAPE, HEARD } given;
     size_t each;
     void (*by[MAKERS])(void);
     size_t sizes[21];    /* up to the first 0 that is not in front */
@@ -267,6 +295,7 @@ enum { RUNS = 400 };
 #define LENGTHS { 0, 16, 64, 512, 655, 1024, 2048, 6554, 8192, 65536 }
 #define GROWTH { 0, 655, 6554, 65536 }
 #define TICKET_GROWTH { 0, 50, 500, 5000 }
+#define HEARD_GROWTH { 0, 650, 6503, 65025 }
 
 static const call calls[] = {
     { "ht_seal: bytes of text", TEXT, 0, BY_ALL(seal), LENGTHS, 0 },
@@ -297,6 +326,9 @@ static const call calls[] = {
     { "ht_trucks_of_two: tickets on each of two tapes", TAPE, 0, { trucks_of_two_by_library, trucks_of_two_by_c, 0 }, TICKET_GROWTH, 0 },
     { "ht_trucks_of_two: tickets on each of two tapes (in C's place: ticket::totals, over one of them)", TAPE, 0,
         { trucks_of_two_alone_by_library, totals_by_library, 0 }, TICKET_GROWTH, 0 },
+    { "ht_parting: bytes of each of two equal receptions (C byte by byte; in Rust's place: C by words of 8 bytes)", HEARD, 0,
+        { parting_by_library, parting_by_c, parting_by_words }, HEARD_GROWTH, 0 },
+    { "ht_longer: bytes of each of two equal receptions (C byte by byte)", HEARD, 0, { longer_by_library, longer_by_c, 0 }, HEARD_GROWTH, 0 },
     { "bench_pieces, a Rattle program: bytes of text through a session in pieces of 13 (C by the cipher's parts)", TEXT, 13,
         { 0, session_by_c, 0 }, { 65000 }, "target/bin/bench_pieces" },
     { "bench_tape, a Rattle program: tickets through a writer, their fields set just before their add", TAPE, 0,
@@ -360,15 +392,17 @@ static void prepare(const row *r)
     each = r->call->each;
     textlen = r->call->given == TEXT ? r->size : 0, datalen = r->call->given == DATA ? r->size : 0;
     opt_crypto_aead_encrypt(sealed, &len, text, textlen, text, datalen, 0, nonce, key);
-    n = r->call->given == TAPE ? r->size : 0;
+    n = r->call->given == TAPE ? r->size : r->call->given == HEARD ? TICKETS : 0;
+    heard = r->call->given == HEARD ? r->size : 0;
     write_ready_by_c();
     memcpy(tape, out, 25 + 13 * n);
+    memcpy(again, out, 25 + 13 * n);
     ht_opened opened = peer_open_tape(key, 16, tape, 25 + 13 * n, plain, sizeof plain);
     refused |= opened.refused;
     plain_net = opened.net;
 }
 
-/* Ends the program where a call is sent back, or where the makers write different bytes or have different totals or numbers of trucks. */
+/* Ends the program where a call is sent back, or where the makers write different bytes or have different totals or other numbers. */
 static void compare(const row *r)
 {
     static uint8_t first[sizeof out];
@@ -382,6 +416,26 @@ static void compare(const row *r)
         if (refused) fail(r->call->what, "a call is sent back");
         if (makers++ == 0) memcpy(first, out, sizeof out), first_net = net;
         if (memcmp(first, out, sizeof out) != 0 || net != first_net) fail(r->call->what, "library and peer differ");
+    }
+}
+
+/* The rows have receptions that do not part. Here are those that do: all pairs of lengths to 40, the second parting from the first at each
+ * place, or nowhere. */
+static void compare_receptions(void)
+{
+    enum { LONGEST = 40 };
+    uint8_t a[LONGEST], b[LONGEST];
+    memcpy(a, text, LONGEST), memcpy(b, text, LONGEST);
+    for (size_t place = LONGEST;; b[--place] ^= 1) {
+        for (size_t i = 0; i <= LONGEST; i++)
+            for (size_t j = 0; j <= LONGEST; j++) {
+                ht_parted p = ht_parting(a, i, b, j), c = peer_parting(a, i, b, j), w = peer_parting_by_words(a, i, b, j);
+                ht_reception l = ht_longer(a, i, b, j), k = peer_longer(a, i, b, j);
+                if (p.refused != c.refused || p.place != c.place || p.refused != w.refused || p.place != w.place
+                    || l.mast != k.mast || l.bytes != k.bytes)
+                    fail("receptions", "library and peer differ");
+            }
+        if (place == 0) break;
     }
 }
 
@@ -513,7 +567,7 @@ static void print_table(void)
     for (int i = 0; i < 2; i++)
         printf(" %9s %9s %6s %9s %6s %7s%s", "library", "C", "ratio", "Rust", "ratio", "each", i ? "\n" : " |");
     for (const row *r = rows; r < rows + all; r++) {
-        size_t limit = r->call->given == TAPE ? TICKETS : MOST;
+        size_t limit = r->call->given == TAPE ? TICKETS : r->call->given == HEARD ? HT_MOST_TAPE_BYTES : MOST;
         int percent = r->size == limit ? 100 : r->size == (limit + 5) / 10 ? 10 : r->size == limit / 100 ? 1 : 0;
         double time = 0, count = 0;
         if (r == rows || r->call != r[-1].call) {
@@ -541,6 +595,7 @@ int main(int argc, char **argv)
     make_rows();
     for (size_t i = 0; i < all; i++)
         compare(&rows[i]);
+    compare_receptions();
     if (strcmp(argv[1], "--count") == 0) {
         count_rows();
         return 0;

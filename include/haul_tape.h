@@ -29,10 +29,11 @@
  *   ht_list_tape  65 KiB
  *   each other    640 bytes
  *
- * Each answer has a field `refused`: 0 where the call was done, else the number that sent it back. The smallest number that
- * applies is given, but 9 is tried right after 1, before 2; and the rest of the answer is 0 (a reading's position stays). The numbers
- * beside a call stand in the order in which they are tried. A refused call changes nothing: every word of its struct and every byte of
- * its buffers is as it was; but a wrong tag (7) closes a checking session.
+ * Each answer but that of ht_longer, which is never refused, has a field `refused`: 0 where the call was done, else the number that
+ * sent it back. The smallest number that applies is given, but 9 is tried right after 1, before 2; and the rest of the answer is 0 (a
+ * reading's position stays, and 10 comes with its place). The numbers beside a call stand in the order in which they are tried. A
+ * refused call changes nothing: every word of its struct and every byte of its buffers is as it was; but a wrong tag (7) closes a
+ * checking session.
  *
  *   1  the call does not fit the phase, or is meant for the other kind of session
  *   2  a key or nonce that is not 16 bytes; a tag of another length than the one fixed; sealed bytes shorter than the tag; a tape that
@@ -45,6 +46,7 @@
  *   7  the tag differs
  *   8  a ticket does not unpack
  *   9  the length asked for a tag is not 8 to 16 bytes
+ *  10  two receptions part
  */
 #ifndef HAUL_TAPE_H
 #define HAUL_TAPE_H
@@ -197,6 +199,24 @@ typedef struct { uint64_t words[16]; } ht_truck_set;
 
 /* Answers as ht_trucks, and writes the set of the trucks on the tape. */
 ht_truck_count ht_truck_set_of(const uint8_t *plain, size_t plainlen, ht_truck_set *set); /* 2, 8 */
+
+/* ---- two masts hear one tape ---- */
+
+/* A reception is what a mast heard of a tape: any bytes, of any length. Two of them part unless one is the beginning of the other, as it
+ * is where they are equal or one is empty. They are only read, and may overlap. They are sealed bytes and not secret: branches in these
+ * calls depend on them. */
+
+/* Where they part, `refused` is 10 and `place` is that of the first byte that differs, counted from 0; else there is no place, and the
+ * field is 0. */
+typedef struct { uint32_t refused; uint64_t place; } ht_parted;
+
+ht_parted ht_parting(const uint8_t *first, size_t firstlen, const uint8_t *second, size_t secondlen); /* 10 */
+
+/* The longer of two that do not part, whole: its mast, 1 or 2, and how many bytes it has; the first mast's where both have as many. Where
+ * they part, mast 1 and 0 bytes, as of two empty ones. Tags are not looked at: the part is for ht_open_tape. */
+typedef struct { uint32_t mast; uint64_t bytes; } ht_reception;
+
+ht_reception ht_longer(const uint8_t *first, size_t firstlen, const uint8_t *second, size_t secondlen);
 
 #ifdef __cplusplus
 }

@@ -1,6 +1,6 @@
 /* Every call of the header: two tickets go onto a tape, the tape is opened and read back, a message is sealed and checked in pieces,
- * the trucks of tapes are counted, tickets are judged by their weights, and messages have tags of every length. Prints what it read, and
- * ends with 1 where anything is not as it should be.
+ * the trucks of tapes are counted, tickets are judged by their weights, messages have tags of every length, and two receptions of a tape
+ * are compared. Prints what it read, and ends with 1 where anything is not as it should be.
  */
 #include "haul_tape.h"
 
@@ -17,6 +17,8 @@ _Static_assert(sizeof(ht_head) == 12 && sizeof(ht_answer) == 24 && sizeof(ht_wri
 _Static_assert(sizeof(ht_reading) == 40 && sizeof(ht_unpacked_ticket) == 28 && sizeof(ht_unpacked_head) == 16, "layout");
 _Static_assert(sizeof(ht_truck_count) == 8 && sizeof(ht_truck_counts) == 16 && sizeof(ht_truck_set) == 128, "layout");
 _Static_assert(sizeof(ht_session) == 88 && sizeof(ht_writer) == 96, "layout");
+_Static_assert(sizeof(ht_parted) == 16 && offsetof(ht_parted, place) == 8, "layout");
+_Static_assert(sizeof(ht_reception) == 16 && offsetof(ht_reception, bytes) == 8, "layout");
 
 static void must(int holds, const char *what)
 {
@@ -698,6 +700,110 @@ static void tags(void)
     printf("tags of 8 to 16 bytes are written and checked, and no others\n");
 }
 
+/* ---- two masts hear one tape ---- */
+
+typedef struct { const uint8_t *heard; size_t bytes; } reception;
+
+static void answers(reception first, reception second, ht_parted parted, ht_reception longer)
+{
+    ht_parted p = ht_parting(first.heard, first.bytes, second.heard, second.bytes);
+    ht_reception l = ht_longer(first.heard, first.bytes, second.heard, second.bytes);
+
+    must(p.refused == parted.refused && p.place == parted.place, "ht_parting answers otherwise");
+    must(l.mast == longer.mast && l.bytes == longer.bytes, "ht_longer answers otherwise");
+}
+
+/* One is the beginning of the other: in both orders the longer is told, and of two with as many bytes the first. */
+static void together(reception longer, reception shorter)
+{
+    const int equal = longer.bytes == shorter.bytes;
+
+    answers(longer, shorter, (ht_parted){0, 0}, (ht_reception){1, longer.bytes});
+    answers(shorter, longer, (ht_parted){0, 0}, (ht_reception){equal ? 1 : 2, longer.bytes});
+}
+
+static void apart(reception a, reception b, uint64_t place)
+{
+    answers(a, b, (ht_parted){10, place}, (ht_reception){1, 0});
+    answers(b, a, (ht_parted){10, place}, (ht_reception){1, 0});
+}
+
+static void receptions(void)
+{
+    static uint8_t one[70000], other[sizeof one], copy[sizeof one];
+    static const size_t lengths[] = {0, 1, 2, 7, 8, 9, 24, 25, 38, 255, 256, 257, HT_MOST_TAPE_BYTES - 1, HT_MOST_TAPE_BYTES, 65535, 65536,
+        sizeof one - 1, sizeof one};
+    const size_t n = sizeof lengths / sizeof *lengths;
+    const uint8_t repeated[] = {5, 6, 5, 6, 5, 7};
+
+    for (size_t i = 0; i < sizeof one; i++)
+        one[i] = (uint8_t)(i * 7 + i / 256);
+
+    /* whole and cut, empty and equal ones among them; in two buffers, and in one */
+    memcpy(other, one, sizeof one);
+    for (size_t i = 0; i < n; i++)
+        for (size_t j = 0; j <= i; j++) {
+            together((reception){one, lengths[i]}, (reception){other, lengths[j]});
+            together((reception){one, lengths[i]}, (reception){one, lengths[j]});
+        }
+
+    /* one byte differs, in one bit or in all: with as many bytes on both sides, with one or both cut behind that byte, and cut before it */
+    for (size_t i = 0; i < n - 1; i++)
+        for (size_t bits = 1; bits <= 256; bits *= 2) {
+            const size_t place = lengths[i], behind = place + 1;
+
+            memcpy(other, one, sizeof one);
+            other[place] ^= (uint8_t)(bits == 256 ? 255 : bits);
+            memcpy(copy, other, sizeof other);
+            apart((reception){one, sizeof one}, (reception){other, sizeof other}, place);
+            apart((reception){one, sizeof one}, (reception){other, behind}, place);
+            apart((reception){one, behind}, (reception){other, sizeof other}, place);
+            apart((reception){one, behind}, (reception){other, behind}, place);
+            together((reception){one, sizeof one}, (reception){other, place});
+            together((reception){other, sizeof other}, (reception){one, place});
+            must(memcmp(other, copy, sizeof other) == 0, "a reception is written");
+            memset(other + behind, 0x5a, sizeof other - behind); /* the first such byte counts */
+            apart((reception){one, sizeof one}, (reception){other, sizeof other}, place);
+        }
+    for (size_t i = 0; i < sizeof one; i++)
+        must(one[i] == (uint8_t)(i * 7 + i / 256), "a reception is written");
+
+    /* one byte each */
+    for (unsigned a = 0; a < 256; a++)
+        for (unsigned b = 0; b < 256; b++) {
+            const uint8_t bytes[2] = {(uint8_t)a, (uint8_t)b};
+            if (a == b)
+                together((reception){bytes, 1}, (reception){bytes + 1, 1});
+            else
+                apart((reception){bytes, 1}, (reception){bytes + 1, 1}, 0);
+        }
+
+    /* one over the other */
+    together((reception){repeated, 3}, (reception){repeated + 2, 2});
+    together((reception){repeated + 2, 3}, (reception){repeated, 2});
+    together((reception){repeated, 3}, (reception){repeated + 2, 3});
+    apart((reception){repeated, 4}, (reception){repeated + 2, 4}, 3);
+    apart((reception){repeated, 6}, (reception){repeated + 1, 5}, 0);
+    apart((reception){one, sizeof one - 1}, (reception){one + 1, sizeof one - 1}, 0);
+}
+
+/* A tape heard whole by one mast and cut by the other opens from the part that ht_longer tells. */
+static void heard_by_two(const uint8_t *tape, size_t tapelen, uint64_t tickets)
+{
+    uint8_t cut[HT_HEAD_BYTES + 2 * HT_TICKET_BYTES + HT_TAG_BYTES], plain[2 * HT_TICKET_BYTES];
+
+    memcpy(cut, tape, tapelen);
+    for (size_t bytes = 0; bytes <= tapelen; bytes++)
+        for (int turn = 0; turn < 2; turn++) {
+            const reception a = {tape, tapelen}, b = {cut, bytes}, heard[2] = {turn == 0 ? a : b, turn == 0 ? b : a};
+            ht_reception l = ht_longer(heard[0].heard, heard[0].bytes, heard[1].heard, heard[1].bytes);
+            must(l.mast == 1 || l.mast == 2, "there is no such mast");
+            ht_opened o = ht_open_tape(key, sizeof key, heard[l.mast - 1].heard, l.bytes, plain, sizeof plain);
+            must(o.refused == 0 && o.tickets == tickets, "the longer reception does not open");
+        }
+    printf("two masts: the longer reception opens, and the place is told where they part\n");
+}
+
 int main(void)
 {
     static const ht_ticket tickets[2] = {
@@ -719,5 +825,7 @@ int main(void)
     trucks();
     weights();
     tags();
+    receptions();
+    heard_by_two(tape, n, 2);
     return 0;
 }

@@ -61,6 +61,8 @@ static const struct { const char *call; size_t upto; size_t bytes; } promises[] 
     {"ht_trucks", ANY, 640},
     {"ht_trucks_of_two", ANY, 640},
     {"ht_truck_set_of", ANY, 640},
+    {"ht_parting", ANY, 640},
+    {"ht_longer", ANY, 640},
 };
 
 /* ---- the calls, through a pointer, so that a function that does nothing can stand in their place ---- */
@@ -72,8 +74,8 @@ static function target;
 /* what the call is given; lengths that a case does not name are right ones */
 static struct {
     size_t keylen, noncelen, datalen, textlen, secondlen, taglen, outlen;
-    const uint8_t *text; /* text, sealed bytes, a piece, a tag, a tape, packed or plain bytes */
-    const uint8_t *second; /* the plain bytes of a second tape */
+    const uint8_t *text; /* text, sealed bytes, a piece, a tag, a tape, a reception, packed or plain bytes */
+    const uint8_t *second; /* the plain bytes of a second tape, or a second reception */
     ht_session session;
     ht_writer writer;
     ht_ticket ticket;
@@ -82,7 +84,7 @@ static struct {
     uint64_t position;
 } given, saved;
 
-/* what it answers; each answer begins with `refused` */
+/* what it answers; each answer begins with `refused`, but that of ht_longer with the mast */
 static union {
     uint32_t refused;
     ht_written written;
@@ -93,6 +95,8 @@ static union {
     ht_reading reading;
     ht_truck_count trucks;
     ht_truck_counts two;
+    ht_parted parted;
+    ht_reception longer;
 } got;
 
 static uint8_t data[HT_MOST_BYTES + 1], out[HT_MOST_LISTING_BYTES];
@@ -107,6 +111,8 @@ NOTHING ht_unpacked_head no_head(void) { return (ht_unpacked_head){.refused = 0}
 NOTHING ht_reading no_reading(void) { return (ht_reading){.refused = 0}; }
 NOTHING ht_truck_count no_trucks(void) { return (ht_truck_count){0, 0}; }
 NOTHING ht_truck_counts no_two(void) { return (ht_truck_counts){0, 0, 0, 0}; }
+NOTHING ht_parted no_parted(void) { return (ht_parted){0, 0}; }
+NOTHING ht_reception no_longer(void) { return (ht_reception){0, 0}; }
 
 /* CALL(name, the field of `got`, what stands in its place, its arguments) */
 #define CALL(name, field, nothing, ...) \
@@ -152,6 +158,8 @@ CALL(ht_list_tape, written, no_written, KEY, TEXT, OUT)
 CALL(ht_trucks, trucks, no_trucks, TEXT)
 CALL(ht_trucks_of_two, two, no_two, TEXT, SECOND)
 CALL(ht_truck_set_of, trucks, no_trucks, TEXT, &given.set)
+CALL(ht_parting, parted, no_parted, TEXT, SECOND)
+CALL(ht_longer, longer, no_longer, TEXT, SECOND)
 
 /* ---- measuring ---- */
 
@@ -631,6 +639,27 @@ static void trucks(void)
     measure(&ht_trucks_of_two_call, ANY, 2);
 }
 
+/* Two receptions: equally long, one shorter, one empty; and parted in the first byte, in the middle and in the last. */
+static void receptions(void)
+{
+    for (size_t i = 0; i < COUNT(lengths); i++)
+        for (size_t j = 0; j < COUNT(lengths); j += 5) {
+            size_t first = lengths[i], second = lengths[j], shorter = first < second ? first : second;
+            const size_t places[] = {0, shorter / 2, shorter - 1};
+
+            memcpy(sealed, text, sizeof text);
+            usual(), saved.text = text, saved.textlen = first, saved.second = sealed, saved.secondlen = second;
+            measure(&ht_parting_call, ANY, 0);
+            measure(&ht_longer_call, ANY, first < second ? 2 : 1);
+            for (size_t k = 0; shorter > 0 && k < COUNT(places); k++) {
+                sealed[places[k]] ^= 1;
+                measure(&ht_parting_call, ANY, 10);
+                measure(&ht_longer_call, ANY, 1);
+                sealed[places[k]] ^= 1;
+            }
+        }
+}
+
 static void reads_below(void)
 {
     volatile uint8_t room[20000];
@@ -695,6 +724,7 @@ int main(int argc, char **argv)
     writers();
     tapes();
     trucks();
+    receptions();
     if (print_table) {
         printf("%-28s%16s%10s%10s%10s\n", "call", "text length", "changed", "touched", "promised");
         for (size_t i = 0; i < sizeof promises / sizeof *promises; i++)
@@ -705,6 +735,6 @@ int main(int argc, char **argv)
         printf("stack: %d of %d cases take more than is promised\n", faults, cases);
         return 1;
     }
-    printf("stack: %d cases of 27 calls stay within the promised bytes\n", cases);
+    printf("stack: %d cases of 29 calls stay within the promised bytes\n", cases);
     return 0;
 }

@@ -179,3 +179,60 @@ ht_truck_counts peer_trucks_of_two(const uint8_t *first, size_t firstlen, const 
     r.just_one = r.either - r.both;
     return r;
 }
+
+/* ---- receptions ---- */
+
+/* A loop of so few bytes of code may take twice as long where it lies across two cache lines. Here none does, wherever it is linked: it begins
+ * at a multiple of 32, and gcc enters it by a jump. */
+#pragma GCC optimize ("align-jumps=32", "align-loops=32")
+
+static inline size_t shorter(size_t a, size_t b)
+{
+    return a < b ? a : b;
+}
+
+/* how many bytes at the front are the same, of n */
+static inline size_t same(const uint8_t *a, const uint8_t *b, size_t n)
+{
+    size_t i = 0;
+    while (i < n && a[i] == b[i])
+        i++;
+    return i;
+}
+
+/* the same by words; in a word that differs, the lowest set bit is in its first differing byte, where the lowest byte is the first */
+static inline size_t same_by_words(const uint8_t *a, const uint8_t *b, size_t n)
+{
+    size_t i = 0;
+    for (; n - i >= 8; i += 8) {
+        uint64_t x, y;
+        memcpy(&x, a + i, 8);
+        memcpy(&y, b + i, 8);
+        if (x != y) return i + (size_t)__builtin_ctzll(x ^ y) / 8;
+    }
+    return i + same(a + i, b + i, n - i);
+}
+
+static inline ht_parted parted(size_t place, size_t n)
+{
+    return place < n ? (ht_parted){ 10, place } : (ht_parted){ 0, 0 };
+}
+
+ht_parted peer_parting(const uint8_t *first, size_t firstlen, const uint8_t *second, size_t secondlen)
+{
+    size_t n = shorter(firstlen, secondlen);
+    return parted(same(first, second, n), n);
+}
+
+ht_parted peer_parting_by_words(const uint8_t *first, size_t firstlen, const uint8_t *second, size_t secondlen)
+{
+    size_t n = shorter(firstlen, secondlen);
+    return parted(same_by_words(first, second, n), n);
+}
+
+ht_reception peer_longer(const uint8_t *first, size_t firstlen, const uint8_t *second, size_t secondlen)
+{
+    size_t n = shorter(firstlen, secondlen);
+    if (same(first, second, n) < n) return (ht_reception){ 1, 0 };
+    return firstlen < secondlen ? (ht_reception){ 2, secondlen } : (ht_reception){ 1, firstlen };
+}

@@ -15,4 +15,7 @@ ht_answer peer_finish(peer_writer *w, uint8_t *out, size_t outlen);
 ht_opened peer_open_tape(const uint8_t *key, size_t keylen, const uint8_t *tape, size_t tapelen, uint8_t *out, size_t outlen);
 ht_truck_count peer_trucks(const uint8_t *plain, size_t plainlen);
 ht_truck_counts peer_trucks_of_two(const uint8_t *first, size_t firstlen, const uint8_t *second, size_t secondlen);
+ht_parted peer_parting(const uint8_t *first, size_t firstlen, const uint8_t *second, size_t secondlen);
+ht_parted peer_parting_by_words(const uint8_t *first, size_t firstlen, const uint8_t *second, size_t secondlen);    /* of 8 bytes */
+ht_reception peer_longer(const uint8_t *first, size_t firstlen, const uint8_t *second, size_t secondlen);
 #endif

@@ -6,6 +6,7 @@ use Rattle.tape_model.specs.declared.Head.{Head}
 use Rattle.tape_model.specs.Tape.{Totals}
 use Rattle.tape_model.specs.Reader.{Reading, ticket, atEnd}
 use Rattle.trucks.specs.Trucks.{TrucksOfTwo}
+use Rattle.receptions.specs.Receptions.{PartingReply, refusedAt, notParted, Mast, firstMast, secondMast, Part}
 use Rattle.c_answers.specs.declared.HtAnswer.{HtAnswer}
 use Rattle.c_answers.specs.declared.HtWritten.{HtWritten}
 use Rattle.c_answers.specs.declared.HtOpened.{HtOpened}
@@ -14,8 +15,10 @@ use Rattle.c_answers.specs.declared.HtUnpackedHead.{HtUnpackedHead}
 use Rattle.c_answers.specs.declared.HtReading.{HtReading}
 use Rattle.c_answers.specs.declared.HtTruckCount.{HtTruckCount}
 use Rattle.c_answers.specs.declared.HtTruckCounts.{HtTruckCounts}
+use Rattle.c_answers.specs.declared.HtParted.{HtParted}
+use Rattle.c_answers.specs.declared.HtReception.{HtReception}
 
--- `refused` is 0 where the call was done; else it is the number, and all that the call would answer is zeros
+-- `refused` is 0 where the call was done; else it is the number, and all that the call would answer is zeros (but for a reading's position, and the place beside 10)
 
 unfoldable pub writtenNumbers : Reply ℕ → HtWritten
 writtenNumbers (refused n) = record { refused = n; bytes = 0 }
@@ -57,3 +60,16 @@ countNumbers (done n) = record { refused = 0; trucks = n }
 unfoldable pub countsNumbers : Reply TrucksOfTwo → HtTruckCounts
 countsNumbers (refused n) = record { refused = n; both = 0; either = 0; «just_one» = 0 }
 countsNumbers (done n) = record { refused = 0; both = n .both; either = n .either; «just_one» = n .justOne }
+
+-- 10 comes with the place; where the receptions do not part the field is 0
+unfoldable pub partedNumbers : PartingReply → HtParted
+partedNumbers (refusedAt n place) = record { refused = n; place = place }
+partedNumbers notParted = record { refused = 0; place = 0 }
+
+-- the mast, 1 or 2, and the bytes from the start of its reception
+abbrev pub mastNumber : Mast → ℕ
+mastNumber firstMast = 1
+mastNumber secondMast = 2
+
+unfoldable pub partNumbers : Part → HtReception
+partNumbers part = record { mast = mastNumber (part .mast); bytes = part .bytes }

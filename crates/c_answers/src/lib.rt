@@ -1,8 +1,9 @@
 // Answers as structs of numbers, for C: `refused` is 0 where the call was done; else it is the number, and the rest is zeros, but that a
-// reading's position stays.
+// reading's position stays, and 10 comes with its place. A part of a reception is of a call that is never refused.
 use calls::Answer;
 use calls::Written;
 use reader::ReadAt;
+use receptions::PartingAnswer;
 use tape_model::Head;
 use tape_model::NextTicket;
 use tape_model::OpenedTape;
@@ -17,7 +18,8 @@ ghost use Rattle.tape_model.specs.Ticket.{ticketReply, headReply};
 ghost use Rattle.tape_model.specs.Tape.{openedReply};
 ghost use Rattle.tape_model.specs.Reader.{nextReply};
 ghost use Rattle.trucks.specs.Words.{countReply, countsReply};
-ghost use Rattle.c_answers.specs.Answers.{writtenNumbers, answerNumbers, openedNumbers, noTicket, noHead, ticketNumbers, headNumbers, readingNumbers, countNumbers, countsNumbers};
+ghost use Rattle.receptions.specs.Contracts.{partingReply};
+ghost use Rattle.c_answers.specs.Answers.{writtenNumbers, answerNumbers, openedNumbers, noTicket, noHead, ticketNumbers, headNumbers, readingNumbers, countNumbers, countsNumbers, partedNumbers};
 
 #[repr(C)]
 pub struct HtWritten {
@@ -71,6 +73,18 @@ pub struct HtTruckCounts {
     pub both: u32,
     pub either: u32,
     pub just_one: u32,
+}
+
+#[repr(C)]
+pub struct HtParted {
+    pub refused: u32,
+    pub place: u64,
+}
+
+#[repr(C)]
+pub struct HtReception {
+    pub mast: u32,
+    pub bytes: u64,
 }
 
 fn wide(number: u8) -> u32
@@ -248,6 +262,21 @@ pub fn truck_counts(answer: TruckCounts) -> HtTruckCounts
             both,
             either,
             just_one,
+        },
+    }
+}
+
+pub fn parted(answer: PartingAnswer) -> HtParted
+    ensures { λ r. ⌜ r ≡ partedNumbers (partingReply answer) ⌝ }
+{
+    match answer {
+        PartingAnswer::Refused(n, place) => HtParted {
+            refused: wide(n),
+            place: size(place),
+        },
+        PartingAnswer::NotParted => HtParted {
+            refused: 0,
+            place: 0,
         },
     }
 }

@@ -1,2 +1,3 @@
 pub mod Seeing
 pub mod Trucks
+pub mod Receptions

@@ -20,12 +20,15 @@ use Rattle.c_answers.specs.declared.HtUnpackedHead.{HtUnpackedHead}
 use Rattle.c_answers.specs.declared.HtReading.{HtReading}
 use Rattle.c_answers.specs.declared.HtTruckCount.{HtTruckCount}
 use Rattle.c_answers.specs.declared.HtTruckCounts.{HtTruckCounts}
-use Rattle.c_answers.specs.Answers.{writtenNumbers, answerNumbers, openedNumbers, ticketNumbers, headNumbers, readingNumbers, countNumbers, countsNumbers}
+use Rattle.c_answers.specs.declared.HtParted.{HtParted}
+use Rattle.c_answers.specs.declared.HtReception.{HtReception}
+use Rattle.c_answers.specs.Answers.{writtenNumbers, answerNumbers, openedNumbers, ticketNumbers, headNumbers, readingNumbers, countNumbers, countsNumbers, partedNumbers, partNumbers}
 use Rattle.reader.specs.Contracts.{readerAt}
 use Rattle.session.specs.Contracts.{wrappedOutcome}
 use Rattle.session.specs.Words.{machineIn, wordsFor}
 use Rattle.trucks.specs.Trucks.{NumberSet, plainTrucks, plainTrucksOfTwo, plainTruckSet}
 use Rattle.trucks.specs.Words.{setWords}
+use Rattle.receptions.specs.Receptions.{parting, longer}
 use Rattle.tape_writer.specs.Contracts.{wrappedWriterOutcome}
 use Rattle.tape_writer.specs.Words.{plainWriterIn, writerWordsFor}
 
@@ -93,6 +96,12 @@ TrucksSeen plain r = r ≡ countNumbers (plainTrucks plain)
 
 abbrev pub TrucksOfTwoSeen : (first second : List ℕ) → HtTruckCounts → Type 0
 TrucksOfTwoSeen first second r = r ≡ countsNumbers (plainTrucksOfTwo first second)
+
+abbrev pub PartingSeen : (first second : List ℕ) → HtParted → Type 0
+PartingSeen first second r = r ≡ partedNumbers (parting first second)
+
+abbrev pub LongerSeen : (first second : List ℕ) → HtReception → Type 0
+LongerSeen first second r = r ≡ partNumbers (longer first second)
 
 -- ## The words of a set of trucks
 

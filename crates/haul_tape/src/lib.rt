@@ -3,7 +3,9 @@
 use acorn_model::Kind;
 use c_answers::HtAnswer;
 use c_answers::HtOpened;
+use c_answers::HtParted;
 use c_answers::HtReading;
+use c_answers::HtReception;
 use c_answers::HtTruckCount;
 use c_answers::HtTruckCounts;
 use c_answers::HtUnpackedHead;
@@ -12,6 +14,7 @@ use c_answers::HtWritten;
 use c_answers::answered;
 use c_answers::left_unchanged;
 use c_answers::opened;
+use c_answers::parted;
 use c_answers::reading;
 use c_answers::truck_count;
 use c_answers::truck_counts;
@@ -36,7 +39,7 @@ ghost use Rattle.session.specs.Words.{wordsFor};
 ghost use Rattle.tape_writer.specs.Contracts as tape;
 ghost use Rattle.tape_writer.specs.Words.{writerWordsFor};
 ghost use Rattle.c_answers.specs.Answers.{answerNumbers};
-ghost use Rattle.haul_tape.specs.Contracts.{wordsAfter, SessionSeen, WriterSeen, SealSeen, OpenSeen, PackTicketSeen, UnpackTicketSeen, PackHeadSeen, UnpackHeadSeen, OpenTapeSeen, ReadTicketSeen, ListTapeSeen, TrucksSeen, TrucksOfTwoSeen, TruckSetSeen};
+ghost use Rattle.haul_tape.specs.Contracts.{wordsAfter, SessionSeen, WriterSeen, SealSeen, OpenSeen, PackTicketSeen, UnpackTicketSeen, PackHeadSeen, UnpackHeadSeen, OpenTapeSeen, ReadTicketSeen, ListTapeSeen, TrucksSeen, TrucksOfTwoSeen, TruckSetSeen, PartingSeen, LongerSeen};
 
 // ---- whole messages ----
 
@@ -332,4 +335,25 @@ pub extern "C" fn ht_truck_set_of(plain: &[u8], set: &mut [u64; 16]) -> HtTruckC
     let words = hauled.words;
     *set = words;
     told
+}
+
+// ---- two masts hear one tape ----
+
+#[no_mangle]
+pub extern "C" fn ht_parting(first: &[u8], second: &[u8]) -> HtParted
+    ensures { λ r. ⌜ PartingSeen (now (first .entry)) (now (second .entry)) r ⌝ }
+{
+    parted(receptions::parting(first, second))
+}
+
+// What is handed back has more bytes than the first mast's reception only where it is the second's.
+#[no_mangle]
+pub extern "C" fn ht_longer<'a>(first: &'a [u8], second: &'a [u8]) -> HtReception
+    ensures { λ r. ⌜ LongerSeen (now (first .entry)) (now (second .entry)) r ⌝ }
+{
+    let bytes = receptions::longer(first, second).len();
+    HtReception {
+        mast: if first.len() < bytes { 2 } else { 1 },
+        bytes: bytes as u64,
+    }
 }

@@ -1,6 +1,6 @@
 //! The answers of the exports as results.
 
-use crate::exports::{Answer, Opened, TruckCount, TruckCounts};
+use crate::exports::{Answer, Opened, Parted, TruckCount, TruckCounts};
 use crate::exports::{UnpackedHead, UnpackedTicket, Written};
 use crate::{Done, Head, Refusal, Ticket};
 
@@ -71,6 +71,15 @@ impl TruckCounts {
             both: self.both,
             either: self.either,
             just_one: self.just_one,
+        })
+    }
+}
+
+impl Parted {
+    /// Whether the receptions part, and where.
+    pub(crate) fn into_result(self) -> Result<(), crate::Parted> {
+        Refusal::check(self.refused).map_err(|_| crate::Parted {
+            place: self.place as usize,
         })
     }
 }

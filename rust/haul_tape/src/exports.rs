@@ -1,8 +1,9 @@
 //! The exports of the C header one by one, with slices in place of pointers and lengths.
 //!
 //! Answers are as in C: `refused` is 0 where the call was done, else the number that sent it back
-//! (see [`Refusal`](crate::Refusal)). The numbers beside a call are those with which it may be
-//! refused, in the order in which they are tried; the first that applies is given.
+//! (see [`Refusal`](crate::Refusal)); [`longer`] alone is never refused. The numbers beside a call
+//! are those with which it may be refused, in the order in which they are tried; the first that
+//! applies is given.
 //! Most programs want the types at the root of the crate instead; these calls are there for tests,
 //! and for whoever needs a session whose kind is known only when the program runs.
 //!
@@ -116,6 +117,28 @@ pub struct TruckCounts {
     pub just_one: u32,
 }
 
+/// The answer of where two receptions part.
+#[repr(C)]
+#[derive(Clone, Copy, PartialEq, Eq, Debug)]
+#[must_use = "the receptions may part"]
+pub struct Parted {
+    /// 10 where they part, else 0.
+    pub refused: u32,
+    /// The first byte in which they part, counted from 0; 0 where they do not.
+    pub place: u64,
+}
+
+/// The first bytes of what one of two masts heard.
+#[repr(C)]
+#[derive(Clone, Copy, PartialEq, Eq, Debug)]
+#[must_use = "this is the part to be opened"]
+pub struct Reception {
+    /// 1 or 2.
+    pub mast: u32,
+    /// How many bytes.
+    pub bytes: u64,
+}
+
 /// A session of either kind. A drop puts zeros in place of its words.
 #[repr(C)]
 pub struct Session {
@@ -165,6 +188,9 @@ extern "C" {
     fn ht_trucks(plain: *const u8, plainlen: usize) -> TruckCount;
     fn ht_trucks_of_two(first: *const u8, firstlen: usize, second: *const u8, secondlen: usize) -> TruckCounts;
     fn ht_truck_set_of(plain: *const u8, plainlen: usize, set: *mut [u64; 16]) -> TruckCount;
+
+    fn ht_parting(first: *const u8, firstlen: usize, second: *const u8, secondlen: usize) -> Parted;
+    fn ht_longer(first: *const u8, firstlen: usize, second: *const u8, secondlen: usize) -> Reception;
 }
 
 /// Puts zeros in place of words, by writes that the compiler may not leave out although nobody
@@ -492,4 +518,17 @@ pub fn trucks_of_two(first: &[u8], second: &[u8]) -> TruckCounts {
 pub fn truck_set_of(plain: &[u8], set: &mut [u64; 16]) -> TruckCount {
     // SAFETY: see the module's text.
     unsafe { ht_truck_set_of(plain.as_ptr(), plain.len(), set) }
+}
+
+/// Where two receptions of one tape part, if they do. 10.
+pub fn parting(first: &[u8], second: &[u8]) -> Parted {
+    // SAFETY: see the module's text.
+    unsafe { ht_parting(first.as_ptr(), first.len(), second.as_ptr(), second.len()) }
+}
+
+/// The longer of two receptions, whole, by its mast and bytes; the first mast's where both have as
+/// many. Where they part, mast 1 and 0 bytes, as of two empty ones.
+pub fn longer(first: &[u8], second: &[u8]) -> Reception {
+    // SAFETY: see the module's text.
+    unsafe { ht_longer(first.as_ptr(), first.len(), second.as_ptr(), second.len()) }
 }

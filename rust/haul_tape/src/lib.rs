@@ -2,9 +2,10 @@
 //!
 //! A [`Writer`] seals a shift's [`Ticket`]s behind a [`Head`] as a tape; [`open_tape`] opens it, a
 //! [`Reader`] hands out its tickets, and [`listing`] prints them. [`trucks()`] and [`trucks_of_two`]
-//! count the trucks on opened tapes, and [`truck_set_of`] gives them as a set of bits. [`message`] seals
-//! and opens byte messages whole; [`Sealing`] and [`Checking`] take them in pieces. A call that is
-//! sent back says why by a [`Refusal`].
+//! count the trucks on opened tapes, and [`truck_set_of`] gives them as a set of bits. Where two masts
+//! heard one tape, [`parting`] finds the byte in which their receptions part, and [`longer`] hands
+//! back the longer one. [`message`] seals and opens byte messages whole; [`Sealing`] and [`Checking`]
+//! take them in pieces. A call that is sent back says why by a [`Refusal`].
 //!
 //! ```
 //! use haul_tape::{open_tape, Head, Reader, Refusal, Ticket, Writer};
@@ -91,12 +92,14 @@ mod answers;
 #[allow(unsafe_code)]
 pub mod exports;
 pub mod message;
+mod receptions;
 mod refusal;
 mod session;
 mod tape;
 mod ticket;
 mod trucks;
 
+pub use receptions::{longer, parting, Parted};
 pub use refusal::Refusal;
 pub use session::{Checking, Done, Sealing};
 #[cfg(feature = "alloc")]

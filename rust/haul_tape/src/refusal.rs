@@ -44,6 +44,8 @@ pub enum Refusal {
     Unpack = 8,
     /// 9: the length asked for a tag is not 8 to 16 bytes.
     TagLength = 9,
+    /// 10: two receptions part. [`Parted`](crate::Parted) has the place, too.
+    Parted = 10,
 }
 
 impl Refusal {
@@ -75,6 +77,7 @@ impl Refusal {
             7 => Refusal::Tag,
             8 => Refusal::Unpack,
             9 => Refusal::TagLength,
+            10 => Refusal::Parted,
             _ => return None,
         })
     }
@@ -92,6 +95,7 @@ impl fmt::Display for Refusal {
             Refusal::Tag => "the tag differs",
             Refusal::Unpack => "a ticket does not unpack",
             Refusal::TagLength => "the length asked for a tag is not 8 to 16 bytes",
+            Refusal::Parted => "two receptions part",
         };
         write!(f, "{reason} (refusal {})", self.number())
     }

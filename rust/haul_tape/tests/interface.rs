@@ -1,7 +1,8 @@
 //! What a caller may rely on beside the library's own answers.
 
-use haul_tape::{exports, listing, message, open_tape, truck_set_of, trucks, trucks_of_two};
-use haul_tape::{Checking, Head, Reader, Refusal, Sealing, Ticket, TruckCounts, Writer};
+use haul_tape::{exports, listing, longer, message, open_tape, parting};
+use haul_tape::{truck_set_of, trucks, trucks_of_two};
+use haul_tape::{Checking, Head, Parted, Reader, Refusal, Sealing, Ticket, TruckCounts, Writer};
 use std::error::Error;
 
 const HEAD: Head = Head {
@@ -492,9 +493,149 @@ fn trucks_of_wrong_bytes() {
     assert_eq!(exports::trucks_of_two(&bad, &right), answer);
 }
 
+/// Receptions that do not part: all of the longer is handed back, in the buffer of its mast.
+#[track_caller]
+fn together(first: &[u8], second: &[u8], mast: u32) {
+    let answer = exports::Parted {
+        refused: 0,
+        place: 0,
+    };
+    assert_eq!(exports::parting(first, second), answer);
+    assert_eq!(parting(first, second), Ok(()));
+    let heard = [first, second][mast as usize - 1];
+    let part = exports::Reception {
+        mast,
+        bytes: heard.len() as u64,
+    };
+    assert_eq!(exports::longer(first, second), part);
+    let handed_back = longer(first, second);
+    assert_eq!(handed_back.as_ptr(), heard.as_ptr());
+    assert_eq!(handed_back.len(), heard.len());
+}
+
+/// Receptions that part, in both orders: nothing is handed back, at the start of the first.
+#[track_caller]
+fn parted(one: &[u8], other: &[u8], place: usize) {
+    for (first, second) in [(one, other), (other, one)] {
+        let answer = exports::Parted {
+            refused: 10,
+            place: place as u64,
+        };
+        assert_eq!(exports::parting(first, second), answer);
+        assert_eq!(parting(first, second), Err(Parted { place }));
+        let part = exports::Reception { mast: 1, bytes: 0 };
+        assert_eq!(exports::longer(first, second), part);
+        let handed_back = longer(first, second);
+        assert_eq!(handed_back.as_ptr(), first.as_ptr());
+        assert_eq!(handed_back.len(), 0);
+    }
+}
+
+/// One is the beginning of the other: the longer is handed back, and of two equal ones the first.
+#[test]
+fn receptions_that_do_not_part() {
+    let one: Vec<u8> = (0..=255).cycle().take(70_000).collect();
+    let other = one.clone();
+    together(&[], &[], 1);
+    together(&one[..0], &other[..0], 1);
+    together(&[7], &[7], 1);
+    for length in [1, 2, 24, 25, 38, 65_024, 65_025, 65_536, 70_000] {
+        together(&one[..length], &other[..length], 1);
+        together(&one[..length], &one[..length], 1);
+        together(&one[..length], &[], 1);
+        together(&[], &one[..length], 2);
+        together(&one[..length], &other[..length - 1], 1);
+        together(&one[..length - 1], &other[..length], 2);
+        together(&one, &other[..length], 1);
+        if length < one.len() {
+            together(&one[..length], &other, 2);
+        }
+    }
+    // parts of one buffer, which overlap
+    let buffer = [5, 6, 5, 6, 5, 7];
+    together(&buffer[..3], &buffer[2..4], 1);
+    together(&buffer[2..4], &buffer[..3], 2);
+    together(&buffer[..3], &buffer[2..5], 1);
+}
+
+/// The place is that of the first byte that differs, whatever comes behind it and however long the
+/// receptions are.
+#[test]
+fn receptions_that_part() {
+    let one: Vec<u8> = (0..=255).cycle().take(70_000).collect();
+    for place in [0, 1, 7, 8, 255, 256, 65_024, 65_535, 65_536, 69_999] {
+        for change in [1, 0x80, 0xFF] {
+            let mut other = one.clone();
+            other[place] ^= change;
+            parted(&one, &other, place);
+            parted(&one[..=place], &other[..=place], place);
+            parted(&one[..=place], &other, place);
+            parted(&one, &other[..=place], place);
+            together(&one[..place], &other, 2);
+            together(&one, &other[..place], 1);
+            for byte in &mut other[place..] {
+                *byte ^= 0x55;
+            }
+            parted(&one, &other, place);
+        }
+    }
+    parted(&[7], &[6], 0);
+    // a byte lost on the way moves those behind it
+    parted(&one[..200], &[&one[..9], &one[10..]].concat(), 9);
+    let buffer = [5, 6, 5, 6, 5, 7];
+    parted(&buffer[..4], &buffer[2..], 3);
+    parted(&buffer, &buffer[1..], 0);
+}
+
+/// A tape that one mast heard whole opens from what is handed back, in whatever order they are.
+#[test]
+fn the_longer_reception_opens() {
+    let key = [1; 16];
+    let mut tape = [0; 38];
+    let mut writer = Writer::new();
+    writer.start(&key, HEAD, &mut tape).unwrap();
+    writer.add(TICKET, &mut tape[9..]).unwrap();
+    writer.finish(&mut tape[22..]).unwrap();
+    let open = |heard: &[u8]| open_tape(&key, heard, &mut [0; 13]).map(|opened| opened.net);
+    for length in 0..=38 {
+        assert_eq!(open(longer(&tape, &tape[..length])), Ok(140_000));
+        assert_eq!(open(longer(&tape[..length], &tape)), Ok(140_000));
+        if length < 38 {
+            let cut = longer(&tape[..length], &tape[..20]);
+            let refusal = if cut.len() == 25 {
+                Refusal::Tag
+            } else {
+                Refusal::Size
+            };
+            assert_eq!(open(cut), Err(refusal));
+        }
+    }
+    // what both heard wrongly does not part, and does not open
+    let mut wrong = tape;
+    wrong[30] ^= 1;
+    assert_eq!(open(longer(&wrong, &wrong[..36])), Err(Refusal::Tag));
+    assert_eq!(open(longer(&wrong, &tape)), Err(Refusal::Size));
+}
+
+/// A parting is an error of its own, and a refusal where only its number is wanted.
+#[test]
+fn partings_as_errors() {
+    fn first_mast<'a>(first: &'a [u8], second: &[u8]) -> Result<&'a [u8], Refusal> {
+        parting(first, second)?;
+        Ok(first)
+    }
+    assert_eq!(first_mast(b"ab", b"a"), Ok(&b"ab"[..]));
+    assert_eq!(first_mast(b"ab", b"ba"), Err(Refusal::Parted));
+    let parted = parting(b"tape", b"tale").unwrap_err();
+    let error: &dyn Error = &parted;
+    let expected = "two receptions part at byte 2 (refusal 10)";
+    assert_eq!(error.to_string(), expected);
+    assert_eq!(format!("{parted:?}"), "Parted { place: 2 }");
+}
+
 #[test]
 fn numbers_of_refusals() {
-    for number in 1..=9 {
+    for number in 1..=10 {
         let refusal = Refusal::from_number(number).unwrap();
         assert_eq!(u32::from(refusal.number()), number);
         let error: &dyn Error = &refusal;
@@ -502,7 +643,8 @@ fn numbers_of_refusals() {
     }
     assert_eq!(Refusal::from_number(0), None);
     assert_eq!(Refusal::from_number(9), Some(Refusal::TagLength));
-    assert_eq!(Refusal::from_number(10), None);
+    assert_eq!(Refusal::from_number(10), Some(Refusal::Parted));
+    assert_eq!(Refusal::from_number(11), None);
 }
 
 /// What is secret, and what was opened, is not shown.
@@ -537,6 +679,9 @@ fn sessions_are_plain_words() {
     sendable::<exports::TruckCount>(8);
     sendable::<exports::TruckCounts>(16);
     sendable::<TruckCounts>(12);
+    sendable::<exports::Parted>(16);
+    sendable::<exports::Reception>(16);
+    sendable::<Parted>(8);
 }
 
 /// A text over the limit is refused before a vector of its length is made.

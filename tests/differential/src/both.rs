@@ -2,9 +2,10 @@
 //! where the two differ it panics.
 
 use haul_tape::exports::{self, Answer, TruckCount, Written};
-use haul_tape::{Head, Reader, Ticket};
+use haul_tape::{Head, Reader, Refusal, Ticket};
 use haul_tape_twin::machine::Done;
 use haul_tape_twin::reader::{self, Next};
+use haul_tape_twin::receptions::{self, Part, Parted};
 use haul_tape_twin::{listing, message, tape, ticket, trucks};
 use std::fmt::Debug;
 
@@ -426,4 +427,58 @@ pub fn trucks_of_two(first: &[u8], second: &[u8]) -> Result<trucks::TruckCounts,
         .map_err(|refusal| refusal.number());
     assert_eq!(by_wrapper, ran.answer);
     ran.answer
+}
+
+/// Where two receptions part, if they do.
+#[track_caller]
+pub fn parting(first: &[u8], second: &[u8]) -> Result<(), Parted> {
+    let library = || {
+        let parted = exports::parting(first, second);
+        if parted.refused == 0 {
+            assert_eq!(parted.place, 0, "a place where there is none");
+            return Ok(());
+        }
+        Err(Parted {
+            number: u8::try_from(parted.refused).expect("a number of document 02"),
+            place: parted.place as usize,
+        })
+    };
+    let ran = agree(
+        "parting",
+        &[first, second],
+        0,
+        |_| Ok(library()),
+        |_| Ok(receptions::parting(first, second)),
+    );
+    let answer = ran.answer.expect("either answer is one");
+    let by_wrapper = haul_tape::parting(first, second).map_err(|parted| Parted {
+        number: Refusal::from(parted).number(),
+        place: parted.place,
+    });
+    assert_eq!(by_wrapper, answer);
+    answer
+}
+
+/// The longer of two receptions, by its mast and bytes. The Rust call must hand back that part of
+/// that buffer, and not just the same bytes.
+#[track_caller]
+pub fn longer(first: &[u8], second: &[u8]) -> Part {
+    let library = || {
+        let part = exports::longer(first, second);
+        Part {
+            mast: part.mast,
+            bytes: part.bytes as usize,
+        }
+    };
+    let ran = agree(
+        "the longer reception",
+        &[first, second],
+        0,
+        |_| Ok(library()),
+        |_| Ok(receptions::longer_part(first, second)),
+    );
+    let handed_back = haul_tape::longer(first, second).as_ptr_range();
+    let twin = receptions::longer(first, second).as_ptr_range();
+    assert_eq!(handed_back, twin, "the buffer that is handed back");
+    ran.answer.expect("it is never refused")
 }

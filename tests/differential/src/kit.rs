@@ -7,11 +7,13 @@ mod messages;
 mod openings;
 mod packed;
 mod readings;
+mod receptions;
 mod short_tags;
 mod tapes;
 mod trucks;
 
 pub use readings::Readers;
+pub use receptions::heard;
 pub use tapes::sealed;
 
 use haul_tape::{Head, Ticket};
@@ -47,6 +49,7 @@ pub fn files() -> Vec<File> {
     let tapes = tapes::tapes();
     files.push(openings::openings(&tapes));
     files.push(trucks::trucks(&tapes));
+    files.push(receptions::receptions(&tapes));
     files.extend(tapes);
     files
 }

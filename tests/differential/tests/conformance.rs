@@ -3,8 +3,9 @@
 use haul_tape::{Head, Ticket};
 use haul_tape_differential::both::{self, Ran};
 use haul_tape_differential::calls::{write_tape, SessionCall, Sessions, WriterCall, Writers};
-use haul_tape_differential::kit::{self, bytes_of, Readers};
+use haul_tape_differential::kit::{self, bytes_of, heard, Readers};
 use haul_tape_twin::machine::{Done, Kind};
+use haul_tape_twin::receptions::{Part, Parted};
 use std::fs;
 use std::path::PathBuf;
 
@@ -419,6 +420,50 @@ fn trucks() {
     }
     assert!(tried.iter().all(|&tried| tried > 40), "{tried:?}");
     assert!(refused.iter().all(|&refused| refused > 15), "{refused:?}");
+}
+
+#[test]
+fn receptions() {
+    let tape = |name: &str| read(&format!("tapes/{name}.tape"));
+    // of parting: done, refused; of longer: mast 1, mast 2, no bytes
+    let (mut partings, mut masts) = ([0; 2], [0; 3]);
+    for fields in lines("receptions.txt") {
+        let (call, answer) = parted(&fields);
+        let [call, first, second] = call else {
+            panic!("a call and two receptions: {fields:?}");
+        };
+        let [first, second] = [first, second].map(|field| heard(field, &tape));
+        let answer: Vec<&str> = answer.iter().map(String::as_str).collect();
+        match (call.as_str(), &answer[..]) {
+            ("parting", ["done"]) => {
+                assert_eq!(both::parting(&first, &second), Ok(()), "{fields:?}");
+                partings[0] += 1;
+            }
+            ("parting", ["refused", expected, place]) => {
+                let expected = Parted {
+                    number: number(expected),
+                    place: number(place),
+                };
+                let answer = both::parting(&first, &second);
+                assert_eq!(answer, Err(expected), "{fields:?}");
+                partings[1] += 1;
+            }
+            ("longer", [mast, bytes]) => {
+                let part = Part {
+                    mast: number(mast),
+                    bytes: number(bytes),
+                };
+                assert_eq!(both::longer(&first, &second), part, "{fields:?}");
+                masts[match part.bytes {
+                    0 => 2,
+                    _ => part.mast as usize - 1,
+                }] += 1;
+            }
+            _ => panic!("no line: {fields:?}"),
+        }
+    }
+    assert!(partings.iter().all(|&some| some > 30), "{partings:?}");
+    assert!(masts.iter().all(|&some| some > 15), "{masts:?}");
 }
 
 /// The plain bytes that a field stands for; it may name the file of a tape.

@@ -14,6 +14,7 @@ pub mod machine;
 pub mod message;
 pub mod number;
 pub mod reader;
+pub mod receptions;
 pub mod tape;
 pub mod ticket;
 pub mod trucks;

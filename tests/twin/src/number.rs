@@ -1,5 +1,5 @@
 //! The refusal numbers and the limits that go with them (document 01, "What sends a call back";
-//! 9 is from document 02, P4).
+//! 9 and 10 are from document 02, P4 and P5).
 //!
 //! The smallest number that applies is answered, but 9 comes right after 1: before 2.
 
@@ -22,6 +22,8 @@ pub const TAG: u8 = 7;
 pub const UNPACK: u8 = 8;
 /// A tag length to be fixed is outside 8 to 16 bytes.
 pub const TAG_LENGTH: u8 = 9;
+/// The receptions part; the place goes with it.
+pub const RECEPTIONS: u8 = 10;
 
 /// The most bytes of data, and the most bytes of text, that one message may have.
 pub const MAX_BYTES: usize = 65_536;

@@ -1,0 +1,4 @@
+pub mod Places
+pub mod Beginnings
+pub mod Parts
+pub mod Proved
