@@ -216,6 +216,44 @@ static void pack_by_library(void)
         refused |= ht_pack_ticket(tickets[i], out + 13 * i, 13).refused;
 }
 
+/* ---- forms ---- */
+
+/* The same tickets in form 2, ready and packed. What packing writes goes aside: the bytes of the two forms are not compared. */
+static ht_ticket day_tickets[TICKETS];
+static uint8_t day_plain[13 * TICKETS], aside[13 * TICKETS];
+
+static void unpack_form_2_by_library(void)
+{
+    net = 0;
+    for (size_t i = 0; i < n; i++) {
+        ht_unpacked_ticket t = ht_unpack_ticket(day_plain + 13 * i, 13);
+        refused |= t.refused;
+        net += t.ticket.gross - t.ticket.tare;
+    }
+}
+
+static void pack_form_2_by_library(void)
+{
+    for (size_t i = 0; i < n; i++)
+        refused |= ht_pack_ticket(day_tickets[i], aside + 13 * i, 13).refused;
+}
+
+static void pack_form_1_by_library(void)
+{
+    for (size_t i = 0; i < n; i++)
+        refused |= ht_pack_ticket(tickets[i], aside + 13 * i, 13).refused;
+}
+
+static void move_by_library(void)
+{
+    net = 0;
+    for (size_t i = 0; i < n; i++) {
+        ht_unpacked_ticket t = ht_move_ticket(day_tickets[i], 1);
+        refused |= t.refused;
+        net += t.ticket.gross - t.ticket.tare;
+    }
+}
+
 /* ---- trucks ---- */
 
 #define TRUCKS(maker, of_one, of_two)                                        \
@@ -320,6 +358,11 @@ static const call calls[] = {
     { "ht_read_ticket: tickets, a call for each and one at the end", TAPE, 0, { read_by_library, 0, 0 }, TICKET_GROWTH, 0 },
     { "ht_unpack_ticket: tickets, a call for each", TAPE, 0, { unpack_by_library, 0, 0 }, TICKET_GROWTH, 0 },
     { "ht_pack_ticket: tickets, a call for each", TAPE, 0, { pack_by_library, 0, 0 }, TICKET_GROWTH, 0 },
+    { "ht_unpack_ticket: tickets of form 2, a call for each (in C's place: the library, form 1)", TAPE, 0,
+        { unpack_form_2_by_library, unpack_by_library, 0 }, TICKET_GROWTH, 0 },
+    { "ht_pack_ticket: tickets of form 2, a call for each (in C's place: the library, form 1)", TAPE, 0,
+        { pack_form_2_by_library, pack_form_1_by_library, 0 }, TICKET_GROWTH, 0 },
+    { "ht_move_ticket: tickets from form 2 to form 1, a call for each", TAPE, 0, { move_by_library, 0, 0 }, TICKET_GROWTH, 0 },
     { "ht_trucks: tickets", TAPE, 0, { trucks_by_library, trucks_by_c, 0 }, TICKET_GROWTH, 0 },
     { "ht_trucks: tickets (in C's place: ticket::totals, over the same bytes)", TAPE, 0,
         { trucks_alone_by_library, totals_by_library, 0 }, TICKET_GROWTH, 0 },
@@ -381,8 +424,12 @@ static void make_inputs(void)
     n = TICKETS;
     write_ready_by_c();
     refused |= peer_open_tape(key, 16, out, 25 + 13 * n, second, sizeof second).refused;
-    for (uint32_t i = 0; i < TICKETS; i++)
+    for (uint32_t i = 0; i < TICKETS; i++) {
         SET_FIELDS(tickets[i], i);
+        ht_unpacked_ticket moved = ht_move_ticket(tickets[i], 2);
+        day_tickets[i] = moved.ticket;
+        refused |= moved.refused | ht_pack_ticket(moved.ticket, day_plain + 13 * i, 13).refused;
+    }
 }
 
 /* What the calls of a row are given, made by the peer in C. */

@@ -14,7 +14,7 @@
  * leave fields of tickets and sets of trucks there, done or refused. Every call that runs the cipher may leave words of its state
  * there, and these with the ciphertext give the text: a caller that must not leave them overwrites the stack below the call. In
  * sealing, sessions, the writer, opening and listing no branch and no address depends on the key, the text or the state, but for the
- * verdict on a tag, the rule on a ticket, and what a listing prints. Tested, as built for x86-64.
+ * verdict on a tag, the rule on a ticket and its form, and what a listing prints. Tested, as built for x86-64.
  *
  * Never use a key and nonce for a second message, nor with two lengths of tag, nor a key and head for a second tape: nothing here can
  * notice it. One try at guessing a tag of n bytes succeeds with a probability of 2^(-8n), and many tries add up: sixteen bytes are
@@ -40,13 +40,14 @@
  *      is not 25 + 13n bytes, or tickets' bytes that are not 13n, with n at most 5,000; a packed ticket that is not 13 bytes, a packed
  *      head that is not 9
  *   3  a head field outside its range
- *   4  a ticket to be written breaks a rule
+ *   4  a ticket to be written or moved breaks a rule; a form asked for that is neither 1 nor 2
  *   5  more than 65,536 bytes of data, or of text; a 5,001st ticket
  *   6  the output is too short
  *   7  the tag differs
  *   8  a ticket does not unpack
  *   9  the length asked for a tag is not 8 to 16 bytes
  *  10  two receptions part
+ *  11  a ticket of form 2 that is tipped after second 43,199 is asked for in form 1
  */
 #ifndef HAUL_TAPE_H
 #define HAUL_TAPE_H
@@ -128,8 +129,9 @@ ht_answer ht_session_check_close(ht_session *s, const uint8_t *tag, size_t tagle
 
 /* ---- tickets and heads ---- */
 
-/* form 1; truck 1 to 1,023; shovel and tip 1 to 63; grade 0 to 9; loaded and tipped 0 to 43,199, in seconds of the shift, loaded
- * at most tipped; gross and tare 0 to 1,048,575 kg, tare at most gross; net is gross minus tare, 0 for an empty trip */
+/* form 1, or 2 for shifts of a whole day; truck 1 to 1,023; shovel and tip 1 to 63; grade 0 to 9; loaded and tipped in seconds of the
+ * shift, 0 to 43,199 in form 1 and 0 to 86,399 in form 2, loaded at most tipped; gross and tare 0 to 1,048,575 kg, tare at most gross;
+ * net is gross minus tare, 0 for an empty trip. Either form packs to 13 bytes, and a tape may have tickets of both. */
 typedef struct {
     uint8_t form;
     uint16_t truck;
@@ -153,6 +155,10 @@ ht_written ht_pack_ticket(ht_ticket ticket, uint8_t *out, size_t outlen);       
 ht_unpacked_ticket ht_unpack_ticket(const uint8_t *packed, size_t packedlen);             /* 2, 8 */
 ht_written ht_pack_head(ht_head head, uint8_t *out, size_t outlen);                       /* 3, 6 */
 ht_unpacked_head ht_unpack_head(const uint8_t *packed, size_t packedlen);                 /* 2, 3 */
+
+/* The ticket in the form asked for, 1 or 2, with every other field kept; as it is where it has that form already. From one form to the
+ * other and back it is the same ticket. C cuts a greater number to eight bits before the call: 257 asks for form 1. 4, 11. */
+ht_unpacked_ticket ht_move_ticket(ht_ticket ticket, uint8_t form);
 
 /* ---- tapes ---- */
 

@@ -1,6 +1,7 @@
 /* Every call of the header: two tickets go onto a tape, the tape is opened and read back, a message is sealed and checked in pieces,
- * the trucks of tapes are counted, tickets are judged by their weights, messages have tags of every length, and two receptions of a tape
- * are compared. Prints what it read, and ends with 1 where anything is not as it should be.
+ * the trucks of tapes are counted, tickets are judged by their weights and by their times in both forms and moved from one form to the
+ * other, messages have tags of every length, and two receptions of a tape are compared. Prints what it read, and ends with 1 where
+ * anything is not as it should be.
  */
 #include "haul_tape.h"
 
@@ -373,6 +374,175 @@ static void weights(void)
         .loaded = 3600, .tipped = 4200, .gross = 1048576, .tare = 1048576};
     must(ht_pack_ticket(heavy, packed, sizeof packed).refused == 4, "a gross and tare of 1,048,576 are taken");
     printf("tare at most gross is taken, with net 0 where they are equal, and tare above gross is not\n");
+}
+
+/* ---- forms 1 and 2 ---- */
+
+/* document 01's ticket, case (h), in a form and with these times */
+static ht_ticket timed(uint8_t form, uint32_t loaded, uint32_t tipped)
+{
+    return (ht_ticket){.form = form, .truck = 5, .shovel = 2, .tip = 3, .grade = 4,
+        .loaded = loaded, .tipped = tipped, .gross = 250000, .tare = 110000};
+}
+
+/* The ticket's bytes, whether it keeps the rule or not: in form 2 times have 17 bits, else 16 and there are two spare bits. 0 where a
+ * field does not fit. */
+static int pack_anyway(ht_ticket t, uint8_t *packed)
+{
+    const unsigned time = t.form == 2 ? 17 : 16;
+    const uint32_t values[] = {t.form, t.truck, t.shovel, t.tip, t.grade, t.loaded, t.tipped, t.gross, t.tare};
+    const unsigned widths[] = {4, 10, 6, 6, 4, time, time, 20, 20};
+    size_t bit = 0;
+
+    memset(packed, 0, HT_TICKET_BYTES);
+    for (size_t i = 0; i < sizeof widths / sizeof *widths; i++) {
+        if (values[i] >> widths[i] != 0)
+            return 0;
+        for (unsigned left = widths[i]; left-- > 0; bit++)
+            packed[bit / 8] |= (uint8_t)((values[i] >> left & 1) << (7 - bit % 8));
+    }
+    return 1;
+}
+
+/* A tape of a form 1 ticket, this one and a form 2 ticket is written, opened, read, counted and listed where the ticket keeps the rule; else
+ * each of these calls is refused. */
+static void on_mixed_tape(ht_ticket t, const uint8_t *packed, int right)
+{
+    enum { BYTES = 3 * HT_TICKET_BYTES };
+    const ht_head head = {.device = 7, .shift = 2, .sheet = 1};
+    ht_ticket first = timed(1, 0, 43199), last = timed(2, 65535, 86399);
+    uint8_t plain[BYTES], out[BYTES], nonce[HT_NONCE_BYTES] = {0}, tape[HT_HEAD_BYTES + BYTES + HT_TAG_BYTES], by_writer[sizeof tape];
+    char listing[200] = "REFUSED 8\n", text[200];
+
+    first.truck = 1, last.truck = 1023;
+    const ht_ticket none = {0}, tickets[3] = {first, t, last};
+    must(pack_anyway(first, plain) && pack_anyway(last, plain + 2 * HT_TICKET_BYTES), "a field does not fit");
+    memcpy(plain + HT_TICKET_BYTES, packed, HT_TICKET_BYTES);
+    must(ht_pack_head(head, nonce, HT_HEAD_BYTES).refused == 0, "the head does not pack");
+    memcpy(tape, nonce, HT_HEAD_BYTES);
+    ht_written w = ht_seal(key, sizeof key, nonce, sizeof nonce, nonce, HT_HEAD_BYTES, plain, BYTES, tape + HT_HEAD_BYTES, BYTES + HT_TAG_BYTES);
+    must(w.refused == 0, "the tape does not seal");
+    if (right) {
+        must(write_tape(head, tickets, 3, by_writer, sizeof by_writer) == sizeof tape, "the tape has another length");
+        must(memcmp(tape, by_writer, sizeof tape) == 0, "the writer writes another tape");
+        snprintf(listing, sizeof listing, "TAPE 7 2 1\n1 1 2 3 4 0 43199 140000\n2 5 2 3 4 %" PRIu32 " %" PRIu32 " 140000\n"
+            "3 1023 2 3 4 65535 86399 140000\nTOTAL 3 420000\n", t.loaded, t.tipped);
+    }
+
+    fill(out, sizeof out);
+    ht_opened o = ht_open_tape(key, sizeof key, tape, sizeof tape, out, sizeof out);
+    must(o.refused == (right ? 0 : 8) && o.tickets == (right ? 3 : 0) && o.net == (right ? 420000 : 0), "ht_open_tape answers otherwise");
+    if (right)
+        must(memcmp(out, plain, sizeof plain) == 0, "another text opens");
+    else
+        must_be_filled(out, sizeof out);
+    for (uint64_t i = 0; i < 4; i++) {
+        const int bad = i == 1 && !right;
+        ht_reading r = ht_read_ticket(plain, sizeof plain, i);
+        must(r.refused == (bad ? 8 : 0) && r.at_end == (i == 3) && r.position == (bad || i == 3 ? i : i + 1), "ht_read_ticket answers otherwise");
+        must(same_ticket(r.ticket, bad || i == 3 ? none : tickets[i]), "another ticket was read");
+    }
+    const opened_tape all = {plain, BYTES, right ? 0 : 8}, alone = {plain, HT_TICKET_BYTES, 0};
+    trucks_on(all, right ? 3 : 0);
+    trucks_on_two(all, alone, all.refused, right ? 1 : 0, right ? 3 : 0, right ? 2 : 0);
+    w = ht_list_tape(key, sizeof key, tape, sizeof tape, (uint8_t *)text, sizeof text);
+    must(w.refused == 0 && w.bytes == strlen(listing), "the listing has another length");
+    must(memcmp(text, listing, w.bytes) == 0, "the listing differs");
+}
+
+/* A move, and its answer: the ticket with that form alone changed, or zeros. */
+static void moves(ht_ticket t, uint8_t form, uint32_t refused)
+{
+    ht_ticket wanted = t;
+
+    wanted.form = form;
+    if (refused != 0)
+        wanted = (ht_ticket){0};
+    ht_unpacked_ticket u = ht_move_ticket(t, form);
+    must(u.refused == refused, "ht_move_ticket is refused otherwise");
+    must(same_ticket(u.ticket, wanted), "ht_move_ticket answers another ticket");
+}
+
+/* A ticket that keeps the rule or breaks it, through every call that takes or gives one; and moved to every form. */
+static void judged(ht_ticket t, int right)
+{
+    const uint32_t late = t.form == 2 && t.tipped > 43199 ? 11 : 0;
+    const ht_ticket none = {0};
+    uint8_t packed[HT_TICKET_BYTES], out[ROOM], moved[HT_TICKET_BYTES];
+    const int fits = pack_anyway(t, packed);
+
+    fill(out, sizeof out);
+    must(ht_pack_ticket(t, out, HT_TICKET_BYTES - 1).refused == (right ? 6 : 4), "a ticket is packed in 12 bytes");
+    must_be_filled(out, sizeof out);
+    ht_written w = ht_pack_ticket(t, out, sizeof out);
+    must(w.refused == (right ? 0 : 4) && w.bytes == (right ? HT_TICKET_BYTES : 0), "ht_pack_ticket answers otherwise");
+    must_be_filled(out + w.bytes, sizeof out - w.bytes);
+    must(memcmp(out, packed, w.bytes) == 0, "a ticket packs to other bytes");
+    if (!right) {
+        ht_writer writer, before;
+        ht_writer_fresh(&writer);
+        must(ht_writer_start(&writer, key, sizeof key, (ht_head){7, 2, 1}, out, sizeof out).refused == 0, "start is refused");
+        before = writer;
+        fill(out, sizeof out);
+        ht_answer a = ht_writer_add(&writer, t, out, sizeof out);
+        must(a.refused == 4 && a.bytes == 0 && a.steps == 0, "ht_writer_add answers otherwise");
+        must(memcmp(&writer, &before, sizeof writer) == 0, "a refused call changes the writer");
+        must_be_filled(out, sizeof out);
+    }
+    must(fits || !right, "a field does not fit");
+    if (fits) {
+        ht_unpacked_ticket u = ht_unpack_ticket(packed, HT_TICKET_BYTES);
+        must(u.refused == (right ? 0 : 8) && same_ticket(u.ticket, right ? t : none), "ht_unpack_ticket answers otherwise");
+        on_mixed_tape(t, packed, right);
+    }
+
+    for (unsigned form = 0; form < 256; form++)
+        moves(t, (uint8_t)form, !right || form < 1 || form > 2 ? 4 : form == 1 ? late : 0);
+    for (uint8_t form = 1; form <= 2 && right && late == 0; form++) { /* there and back: the same bytes */
+        ht_ticket back = ht_move_ticket(ht_move_ticket(t, form).ticket, t.form).ticket;
+        must(ht_pack_ticket(back, moved, sizeof moved).refused == 0 && memcmp(moved, packed, sizeof moved) == 0, "a ticket moved back has other bytes");
+    }
+}
+
+static void forms(void)
+{
+    static const uint8_t worked[2][HT_TICKET_BYTES] = {
+        {0x10, 0x14, 0x20, 0xd0, 0x38, 0x40, 0x41, 0xa0, 0xf4, 0x24, 0x06, 0xb6, 0xc0},
+        {0x20, 0x14, 0x20, 0xd0, 0x1c, 0x20, 0x10, 0x68, 0x3d, 0x09, 0x01, 0xad, 0xb0},
+    };
+    static const uint8_t other_forms[] = {0, 3, 4, 15, 17, 18, 129, 130, 255};
+    static const uint32_t times[] = {0, 1, 3600, 4200, 43198, 43199, 43200, 65535, 65536, 65536 + 4200, 86398, 86399, 86400, 131071, 131072,
+        131072 + 4200, UINT32_MAX};
+    const size_t n = sizeof times / sizeof *times;
+    uint8_t packed[HT_TICKET_BYTES];
+
+    /* document 01's ticket in both forms, and each moved to the other */
+    for (uint8_t form = 1; form <= 2; form++) {
+        ht_ticket t = timed(form, 3600, 4200);
+        for (uint8_t from = 1; from <= 2; from++) {
+            must(ht_pack_ticket(t, packed, sizeof packed).refused == 0, "the ticket does not pack");
+            must(memcmp(packed, worked[form - 1], sizeof packed) == 0, "the ticket packs to other bytes");
+            t = ht_move_ticket(timed(from, 3600, 4200), form).ticket;
+        }
+        must(same_ticket(ht_unpack_ticket(worked[form - 1], HT_TICKET_BYTES).ticket, t), "the bytes unpack to another ticket");
+    }
+
+    for (size_t i = 0; i < n; i++)
+        for (size_t j = 0; j < n; j++) {
+            judged(timed(1, times[i], times[j]), times[i] <= times[j] && times[j] <= 43199);
+            judged(timed(2, times[i], times[j]), times[i] <= times[j] && times[j] <= 86399);
+        }
+    for (size_t i = 0; i < sizeof other_forms; i++) {
+        judged(timed(other_forms[i], 3600, 4200), 0);
+        judged(timed(other_forms[i], 3600, 43200), 0); /* 4 before 11 */
+    }
+
+    /* a late form 2 ticket with another field wrong: 4 before 11 */
+    ht_ticket wrong[] = {timed(2, 0, 43200), timed(2, 0, 43200), timed(2, 0, 43200), timed(2, 0, 43200), timed(2, 0, 86399), timed(2, 0, 86399)};
+    wrong[0].truck = 0, wrong[1].truck = 1024, wrong[2].shovel = 64, wrong[3].tip = 0, wrong[4].grade = 10, wrong[5].tare = 250001;
+    for (size_t i = 0; i < sizeof wrong / sizeof *wrong; i++)
+        judged(wrong[i], 0);
+    printf("tickets of form 1 and 2 are taken up to seconds 43,199 and 86,399, on one tape too, and move from one form to the other\n");
 }
 
 /* ---- tags of 8 to 16 bytes ---- */
@@ -824,6 +994,7 @@ int main(void)
     message();
     trucks();
     weights();
+    forms();
     tags();
     receptions();
     heard_by_two(tape, n, 2);

@@ -4,9 +4,9 @@
  * lengths, heads, ciphertext and tags, nor what the other words hold: counts, kind, phase, and in a session the tag's length.
  *
  * Sealing, sessions and the writer give no report; of a checking session's close the verdict on the tag may be reported. A ticket
- * to be written is judged by the rule, by branches, before it is sealed: so the writer is run with tickets that are not marked,
- * and gives no report; and again with tickets that are, and gives at most one a comparison of the rule, and the same number for
- * all but the first, before which the data ends: tickets that keep the rule take one way.
+ * to be written is judged by the rule and packed by its form, by branches, before it is sealed: so the writer is run with tickets that
+ * are not marked, and gives no report; and again with tickets that are, and gives at most one a comparison of the rule and one of the
+ * form, and the same number for all but the first, before which the data ends: tickets that keep the rule take one way but for the form.
  *
  * An opening whose tag differs gives one report, the verdict; so does a message that opens. A tape whose tag matches gives it,
  * and then those of the ticket rule and of the listing's text, whose number depends on the tickets. tests/stack_and_secrets looks
@@ -14,7 +14,7 @@
  *
  * A call that is refused for lengths, phase or head gives no report. After a close or finish no word depends on a secret.
  *
- * Not run are the calls without a key on tickets, heads and opened bytes: packing, unpacking, reading and counting trucks. The header
+ * Not run are the calls without a key on tickets, heads and opened bytes: packing, unpacking, moving, reading and counting trucks. The header
  * says of counting trucks that branches and addresses depend on the tickets, and nothing of the others. Nor are the calls on two
  * receptions, which are sealed bytes: the header says that branches depend on them.
  */
@@ -25,7 +25,9 @@
 #define SECRET(place, bytes) ((void)VALGRIND_MAKE_MEM_UNDEFINED(place, bytes))
 #define PUBLIC(place, bytes) ((void)VALGRIND_MAKE_MEM_DEFINED(place, bytes))
 #define STATE_BYTES (6 * sizeof(uint64_t))
-#define RULE_COMPARISONS 13 /* those of the ticket rule, as the library makes it: eight of form, truck, shovel and tip, and five */
+/* those of the ticket rule, as the library makes it: eight of form, truck, shovel and tip, two of the last second by form, and four; and
+ * one of the form in packing */
+#define RULE_COMPARISONS 15
 
 static uint8_t data[HT_MOST_BYTES], text[HT_MOST_BYTES], sealed[HT_MOST_BYTES + HT_TAG_BYTES];
 static uint8_t plain[HT_MOST_PLAIN_BYTES], tape[HT_MOST_TAPE_BYTES], out[HT_MOST_LISTING_BYTES];

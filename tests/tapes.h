@@ -35,12 +35,13 @@ static void random_bytes(uint8_t *out, size_t n)
         out[i] = (uint8_t)random_word();
 }
 
+/* of either form */
 static ht_ticket random_ticket(void)
 {
-    ht_ticket t = {.form = 1, .truck = (uint16_t)(1 + random_word() % 1023), .shovel = (uint8_t)(1 + random_word() % 63),
+    ht_ticket t = {.form = (uint8_t)(1 + random_word() % 2), .truck = (uint16_t)(1 + random_word() % 1023), .shovel = (uint8_t)(1 + random_word() % 63),
         .tip = (uint8_t)(1 + random_word() % 63), .grade = (uint8_t)(random_word() % 10)};
 
-    t.tipped = (uint32_t)(random_word() % 43200);
+    t.tipped = (uint32_t)(random_word() % (t.form == 1 ? 43200 : 86400));
     t.loaded = (uint32_t)(random_word() % (t.tipped + 1));
     t.gross = (uint32_t)(random_word() % 1048576);
     t.tare = (uint32_t)(random_word() % (t.gross + 1));
@@ -61,8 +62,12 @@ static void make_plain(uint8_t *plain, size_t n, enum bad bad)
         must(ht_pack_ticket(random_ticket(), at, HT_TICKET_BYTES).refused == 0, "a ticket does not pack");
         if (bad == ALL_BAD)
             random_bytes(at, HT_TICKET_BYTES);
-        if (bad == ALL_BAD || (bad == LAST_BAD && i == n - 1))
-            at[HT_TICKET_BYTES - 1] |= 1; /* a spare bit */
+        if (bad == ALL_BAD || (bad == LAST_BAD && i == n - 1)) {
+            if (at[0] >> 4 == 2)
+                at[5] |= 1, at[6] = at[7] = 0xff; /* tipped at 131,071 */
+            else
+                at[HT_TICKET_BYTES - 1] |= 1; /* a spare bit */
+        }
     }
 }
 

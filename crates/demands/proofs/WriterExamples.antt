@@ -51,13 +51,16 @@ tape key out ticketOut tagOut k h t g =
         (
           record { phase = refl; key = refl; head = refl; ticket = refl; full = refl; output = le-ltb (length ticketOut) ticketLength t },
           (
-            record { phase = refl; key = refl; head = refl; ticket = refl; full = refl; output = le-ltb (length tagOut) tapeTagLength g },
-            tt,
+            record { phase = refl; key = refl; head = refl; ticket = refl; full = refl; output = le-ltb (length ticketOut) ticketLength t },
+            (
+              record { phase = refl; key = refl; head = refl; ticket = refl; full = refl; output = le-ltb (length tagOut) tapeTagLength g },
+              tt,
+            ),
           ),
         ),
       ),
     )
-    (((_, refl), ((_, refl), ((_, refl), ((_, refl), tt)))), refl)
+    (((_, refl), ((_, refl), ((_, refl), ((_, refl), ((_, refl), tt))))), refl)
 
 -- ## Refusals
 

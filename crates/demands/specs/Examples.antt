@@ -19,7 +19,7 @@ use Rattle.tape_model.specs.declared.WriterPhase.the-variants.{Closed}
 use Rattle.tape_model.specs.Ticket.{ticketLength, headLength, packHead}
 use Rattle.tape_model.specs.Tape.{tapeTagLength, nonceOf, openTape}
 use Rattle.tape_model.specs.Writer.{PlainWriter, WriterCall, start, add, finish}
-use Rattle.tape_model.specs.RefusalCases.{goodHead, goodTicket, badTicket, emptyTrip}
+use Rattle.tape_model.specs.RefusalCases.{goodHead, goodTicket, badTicket, emptyTrip, wholeDayTicket}
 use Rattle.session.specs.declared.Session.{Session}
 use Rattle.session.specs.declared.Reply.{Reply as SessionReply}
 use Rattle.session.specs.Contracts.{machineOf, Called}
@@ -137,9 +137,9 @@ pub record SessionExamples : Type 0 where
 abbrev pub SomeWriter : List WriterCall → (List (Entry WriterCall Work) → PlainWriter → Type 0) → Type 0
 SomeWriter cs P = (es : List (Entry WriterCall Work)) × (e : Writer) × WriterList es e × (callsOf es ≡ cs) × P es (writerOf e)
 
--- the head of case (i), the ticket of case (h), and an empty trip
+-- the head of case (i), the ticket of case (h), an empty trip, and a ticket of form 2
 abbrev pub writerCalls : (key out ticketOut tagOut : List ℕ) → List WriterCall
-writerCalls key out ticketOut tagOut = start key goodHead out ∷ add goodTicket ticketOut ∷ add emptyTrip ticketOut ∷ finish tagOut ∷ []
+writerCalls key out ticketOut tagOut = start key goodHead out ∷ add goodTicket ticketOut ∷ add emptyTrip ticketOut ∷ add wholeDayTicket ticketOut ∷ finish tagOut ∷ []
 
 abbrev pub refusedWriterCalls : List WriterCall
 refusedWriterCalls =

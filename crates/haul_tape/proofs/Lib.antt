@@ -1,3 +1,4 @@
 pub mod Seeing
 pub mod Trucks
 pub mod Receptions
+pub mod Forms

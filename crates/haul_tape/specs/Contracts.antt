@@ -29,6 +29,7 @@ use Rattle.session.specs.Words.{machineIn, wordsFor}
 use Rattle.trucks.specs.Trucks.{NumberSet, plainTrucks, plainTrucksOfTwo, plainTruckSet}
 use Rattle.trucks.specs.Words.{setWords}
 use Rattle.receptions.specs.Receptions.{parting, longer}
+use Rattle.forms.specs.Move.{moveTicket}
 use Rattle.tape_writer.specs.Contracts.{wrappedWriterOutcome}
 use Rattle.tape_writer.specs.Words.{plainWriterIn, writerWordsFor}
 
@@ -80,6 +81,9 @@ ListTapeSeen key tape out r after = ResultSeen writtenNumbers (putInto (listing 
 
 abbrev pub UnpackTicketSeen : List ℕ → HtUnpackedTicket → Type 0
 UnpackTicketSeen packed r = r ≡ ticketNumbers (unpackTicket packed)
+
+abbrev pub MoveTicketSeen : (ticket : Ticket) (form : ℕ) → HtUnpackedTicket → Type 0
+MoveTicketSeen ticket form r = r ≡ ticketNumbers (moveTicket ticket form)
 
 abbrev pub UnpackHeadSeen : List ℕ → HtUnpackedHead → Type 0
 UnpackHeadSeen packed r = r ≡ headNumbers (unpackHead packed)

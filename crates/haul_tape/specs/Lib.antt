@@ -1,3 +1,4 @@
 pub mod Contracts
 pub mod Trucks
 pub mod Receptions
+pub mod Forms

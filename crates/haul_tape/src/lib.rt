@@ -39,7 +39,7 @@ ghost use Rattle.session.specs.Words.{wordsFor};
 ghost use Rattle.tape_writer.specs.Contracts as tape;
 ghost use Rattle.tape_writer.specs.Words.{writerWordsFor};
 ghost use Rattle.c_answers.specs.Answers.{answerNumbers};
-ghost use Rattle.haul_tape.specs.Contracts.{wordsAfter, SessionSeen, WriterSeen, SealSeen, OpenSeen, PackTicketSeen, UnpackTicketSeen, PackHeadSeen, UnpackHeadSeen, OpenTapeSeen, ReadTicketSeen, ListTapeSeen, TrucksSeen, TrucksOfTwoSeen, TruckSetSeen, PartingSeen, LongerSeen};
+ghost use Rattle.haul_tape.specs.Contracts.{wordsAfter, SessionSeen, WriterSeen, SealSeen, OpenSeen, PackTicketSeen, UnpackTicketSeen, MoveTicketSeen, PackHeadSeen, UnpackHeadSeen, OpenTapeSeen, ReadTicketSeen, ListTapeSeen, TrucksSeen, TrucksOfTwoSeen, TruckSetSeen, PartingSeen, LongerSeen};
 
 // ---- whole messages ----
 
@@ -203,6 +203,13 @@ pub extern "C" fn ht_unpack_ticket(packed: &[u8]) -> HtUnpackedTicket
     ensures { λ r. ⌜ UnpackTicketSeen (now (packed .entry)) r ⌝ }
 {
     unpacked_ticket(ticket::unpack_ticket(packed))
+}
+
+#[no_mangle]
+pub extern "C" fn ht_move_ticket(ticket: Ticket, form: u8) -> HtUnpackedTicket
+    ensures { λ r. ⌜ MoveTicketSeen ticket form r ⌝ }
+{
+    unpacked_ticket(forms::move_ticket(ticket, form))
 }
 
 #[no_mangle]

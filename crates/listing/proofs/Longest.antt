@@ -7,10 +7,10 @@ use lib.ListN.{length, take, drop, replicate, length-append}
 use Rattle.calls.specs.Calls.{Reply, refused, done, isRefused}
 use Rattle.tape_model.specs.declared.Ticket.{Ticket}
 use Rattle.tape_model.specs.declared.Head.{Head}
-use Rattle.tape_model.specs.Ticket.{ticketLength, net, ticketValuesIn, unpackTicket, headOf, headValuesIn, unpackHead}
+use Rattle.tape_model.specs.Ticket.{ticketLength, net, unpackTicket, headOf, headValuesIn, unpackHead}
 use Rattle.tape_model.specs.Tape.{ticketLimit, unpackTickets, plainTickets, ticketsIn, totalNet, headBytes, plainBytes, openTapeRefusal}
 use Rattle.tape_model.specs.Listing.{headLine, ticketLine, ticketLines, totalLine, refusedLine, listed, listingUnless, listing}
-use Rattle.tape_model.proofs.Tickets.{ranges-of, ticket-told, head-told}
+use Rattle.tape_model.proofs.Tickets.{as-form-2, unpacked-valid, head-told}
 use Rattle.tape_model.proofs.Plain.{plain-held}
 use Rattle.tape_model.proofs.Listing.{decimal-length}
 use Rattle.listing.specs.Contracts.{textRoom}
@@ -76,10 +76,8 @@ head-line-length h d s t = omega (arith, head-length h, decimal-length 9 (h .dev
 ticket-short : (string : List ℕ) (t : Ticket) → unpackTicket string ≡ done t → Short t
 unfolding net
 ticket-short string t e =
-    let p = ticket-told string t e in
-    let r = ranges-of (ticketValuesIn string) (p .1) in
-    subst Short (p .2)
-    (record {
+    let r = as-form-2 t (unpacked-valid string t e) in
+    record {
       truck-short = omega (arith, r .1 .0 .1);
       shovel-short = omega (arith, r .1 .1 .0 .1);
       tip-short = omega (arith, r .1 .1 .1 .0 .1);
@@ -88,7 +86,7 @@ ticket-short string t e =
       tipped-short = omega (arith, r .1 .1 .1 .1 .1 .1 .0 .1);
       net-short = omega (arith, r .1 .1 .1 .1 .1 .1 .1 .0 .1);
       net-below = omega (arith, r .1 .1 .1 .1 .1 .1 .1 .0 .1);
-    })
+    }
 
 all-short : (n : ℕ) (string : List ℕ) (ts : List Ticket) → unpackTickets n string ≡ done ts → AllShort ts
 unfolding unpackTickets

@@ -2,23 +2,17 @@
 use mathlib.Core.Path.{_≡_, refl, sym, ap, _∙_}
 use mathlib.Core.Bool.{false}
 use mathlib.Core.List.{List, [], _∷_, _++_, append-assoc, append-nil}
-use Prim.Native.Nat.{ℕ, suc, _+_, _-_, _/_, _≤_, _<_}
+use Prim.Native.Nat.{ℕ, suc, _+_, _-_, _*_, _/_, _≤_, _<_}
 use native.Mathlib.Omega.{arith}
 use lib.ListN.{length, getD, take, drop, length-append, take-append-drop}
 use lib.Seq.{take-all, take-suc, length-take-le}
-use borrow.Author.Tests.{lt-leb}
 use borrow.Rule.Slice.PartMut.{putMid}
 use Rattle.tape_model.specs.declared.Ticket.{Ticket}
-use mathlib.Core.Logic.{_⊎_, ⊎-elim}
-use denote.Enum.Declared.{declared, tagOf}
-use Rattle.tape_model.specs.declared.NextTicket.{NextTicket}
-use Rattle.tape_model.specs.declared.NextTicket.the-variants.{Refused, Done, End}
-use Rattle.tape_model.proofs.NextTicket.{enum as next-ticket}
-use Rattle.calls.specs.Calls.{done, isRefused}
+use Rattle.calls.specs.Calls.{refused, done, isRefused}
 use Rattle.tape_model.specs.Tape.{ticketLimit, plainTickets, ticketsIn}
-use Rattle.tape_model.specs.Reader.{ticket, handedOut, readNext, nextReply}
+use Rattle.tape_model.specs.Ticket.{ticketOf, unpackTicket}
 use Rattle.tape_model.specs.Listing.{lineEnd, decimal, numbers, listedNumbers, ticketLine, ticketLines}
-use Rattle.tape_model.proofs.Unpacking.{unpacked-at, told, held-size, held-unpack, held-count, held-few}
+use Rattle.tape_model.proofs.Unpacking.{unpacked-at, told, held-unpack, held-count, held-few}
 use Rattle.listing.specs.Contracts.{Wrote, linesOf}
 use Rattle.listing.proofs.Texts.{wrote-as, behind-start, behind-room, behind-wrote, behind-within}
 
@@ -86,31 +80,21 @@ module _ (plain : List ℕ) (good : isRefused (plainTickets plain) ≡ false) wh
   all-lines i h = ap (ticketLines 1) (take-all i tickets (omega (arith, count)))
 
   module _ (i : ℕ) (here : i < length plain / 13) where
-    -- what the reader hands out there
-    handed : (t₀ : Ticket) → readNext (record { string = plain; position = i }) .answer ≡ done (ticket (getD tickets i t₀))
-    unfolding readNext handedOut
-    handed t₀ = rw (held-size plain tickets holds, lt-leb (length plain / 13) i here, unpacked-at (length plain / 13) i plain tickets t₀ here (held-unpack plain tickets holds))
+    -- what the bytes there unpack to
+    handed : (t₀ : Ticket) → unpackTicket (take 13 (drop (13 * i) plain)) ≡ done (getD tickets i t₀)
+    handed t₀ = unpacked-at (length plain / 13) i plain tickets t₀ here (held-unpack plain tickets holds)
 
-    -- so the answer is a ticket
-    module _ (answer : NextTicket) (read : nextReply answer ≡ readNext (record { string = plain; position = i }) .answer) where
-      abbrev tag : ℕ
-      tag = tagOf (declared next-ticket) answer
+    -- width: the length of the slice
+    module _ (width : ℕ) (size : width ≡ 13) where
+      handed-slice : (t₀ : Ticket) → unpackTicket (take width (drop (13 * i) plain)) ≡ done (getD tickets i t₀)
+      handed-slice t₀ = ap (λ (k : ℕ). unpackTicket (take k (drop (13 * i) plain))) size ∙ handed t₀
 
-      pub not-else : (tag ≡ 0) ⊎ (tag ≡ 2) → ⊥
-      unfolding nextReply
-      not-else other = ⊎-elim (λ e. omega (arith, e, is-done answer (read ∙ handed no-ticket))) (λ e. omega (arith, e, is-done answer (read ∙ handed no-ticket))) other
-        where
-          no-ticket : Ticket
-          no-ticket = record { form = 0; truck = 0; shovel = 0; tip = 0; grade = 0; loaded = 0; tipped = 0; gross = 0; tare = 0 }
+      pub not-refused : (n : ℕ) → refused n ≡ unpackTicket (take width (drop (13 * i) plain)) → ⊥
+      not-refused n e = let f = e ∙ handed-slice (ticketOf []) in let z : _≡_ {A = ℕ} 0 1 = cc in omega arith
 
-          is-done : (a : NextTicket) → nextReply a ≡ done (ticket (getD tickets i no-ticket)) → tagOf (declared next-ticket) a ≡ 1
-          is-done (Refused n) e = let z : _≡_ {A = ℕ} 0 1 = cc in absurd (omega arith)
-          is-done (Done t) e = refl
-          is-done End e = let z : _≡_ {A = ℕ} 0 1 = cc in absurd (omega arith)
-
-    module _ (t : Ticket) (read : done (ticket t) ≡ readNext (record { string = plain; position = i }) .answer) where
+    module _ (width : ℕ) (size : width ≡ 13) (t : Ticket) (read : done t ≡ unpackTicket (take width (drop (13 * i) plain))) where
       is-ticket : t ≡ getD tickets i t
-      is-ticket = let e : done (ticket t) ≡ done (ticket (getD tickets i t)) = read ∙ handed t in cc
+      is-ticket = let e : done t ≡ done (getD tickets i t) = read ∙ handed-slice width size t in cc
 
       one-more : ticketLines 1 (take i tickets) ++ ticketLine (i + 1) t ≡ ticketLines 1 (take (i + 1) tickets)
       unfolding ticketLines

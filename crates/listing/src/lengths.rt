@@ -1,9 +1,8 @@
 // The lengths of a listing's lines, by which it is known whether the text fits before any of it is written.
-use reader::read_at;
 use tape_model::Head;
-use tape_model::NextTicket;
 use tape_model::TICKET_LENGTH;
 use tape_model::Ticket;
+use tape_model::UnpackedTicket;
 ghost use mathlib.Core.Path.{_≡_};
 ghost use mathlib.Core.Bool.{false};
 ghost use Prim.Native.Nat.{_≤_};
@@ -75,9 +74,9 @@ fn ticket_lines_length(plain: &[u8]) -> usize
     let mut i: usize = 0;
     let mut sum: usize = 0;
     while i < tickets {
-        let read = read_at(plain, i);
-        let answer = read.answer;
-        let NextTicket::Done(t) = answer else {
+        let at = TICKET_LENGTH * i;
+        let end = at + TICKET_LENGTH;
+        let UnpackedTicket::Done(t) = ticket::unpack_ticket(&plain[at..end]) else {
             return sum;
         };
         sum += ticket_line_length(i + 1, t);

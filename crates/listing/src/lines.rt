@@ -2,11 +2,10 @@
 use super::text::put_decimal;
 use super::text::put_line;
 use super::text::put_rest;
-use reader::read_at;
 use tape_model::Head;
-use tape_model::NextTicket;
 use tape_model::TICKET_LENGTH;
 use tape_model::Ticket;
+use tape_model::UnpackedTicket;
 ghost use mathlib.Core.Path.{_≡_};
 ghost use mathlib.Core.Bool.{false};
 ghost use Prim.Native.Nat.{_≤_};
@@ -74,9 +73,9 @@ pub(crate) fn put_ticket_lines(plain: &[u8], out: &mut [u8]) -> usize
     let mut i: usize = 0;
     let mut at: usize = 0;
     while i < tickets {
-        let read = read_at(plain, i);
-        let answer = read.answer;
-        let NextTicket::Done(t) = answer else {
+        let from = TICKET_LENGTH * i;
+        let end = from + TICKET_LENGTH;
+        let UnpackedTicket::Done(t) = ticket::unpack_ticket(&plain[from..end]) else {
             return at;
         };
         let k = put_ticket_line(i + 1, t, &mut out[at..]);

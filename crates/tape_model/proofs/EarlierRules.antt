@@ -2,6 +2,7 @@
 use mathlib.Core.Path.{_≡_, refl, sym, ap, ap₂, subst, _∙_}
 use mathlib.Core.Bool.{Bool, true, false, not, _&&_}
 use mathlib.Core.List.{List, [], _++_}
+use mathlib.Core.Logic.{_↔_}
 use Prim.Native.Nat.{ℕ, zero, suc, _*_, _/_, _≤_, _<_}
 use native.Mathlib.Omega.{arith}
 use lib.Dec.{eqb, leb, ltb}
@@ -15,16 +16,16 @@ use Rattle.acorn_model.specs.Machine.{keyLength}
 use Rattle.acorn_model.specs.Message.{tagMatches}
 use Rattle.tape_model.specs.declared.Ticket.{Ticket}
 use Rattle.tape_model.specs.declared.Head.{Head}
-use Rattle.tape_model.specs.Format.{inRanges}
-use Rattle.tape_model.specs.Ticket.{form1, formatOf, ticketLength, ticketValues, ticketOf, ordered, valuesRule, ticketRule, Rule, ruleInForce, ticketValuesUnder, unpackTicketUnder, unpackTicket, headRule, unpackHead}
+use Rattle.tape_model.specs.Format.{widths, inRanges, unpack}
+use Rattle.tape_model.specs.Ticket.{form1, form2, formatOf, inForm, formIn, ticketLength, ticketValues, ticketValuesIn, ticketOf, ordered, valuesRule, ticketRule, Rule, ruleInForce, unpackTicketUnder, unpackTicket, headRule, unpackHead}
 use Rattle.tape_model.specs.Tape.{ticketLimit, tapeOf, isTicketsLength, ticketThen, unpackTickets, plainTickets, ticketsIn, Totals, ticketCount, plainBytes, nonceOf, isTapeLength, headBytes, sealedBytes, openTapeRefusalBy, openTapeRefusal, openTapeUnless, openTape}
 use Rattle.tape_model.specs.Reader.{ticket, atEnd, Reader, ReadOutcome, stays, handedOut, readNextBy, readNext}
 use Rattle.tape_model.specs.Laws.{Valid}
 use Rattle.tape_model.specs.Listing.{refusedLine, listedUnless, listingUnless, listing, printed}
 use Rattle.tape_model.specs.EmptyTrips.{weighing}
-use Rattle.tape_model.specs.EarlierRules.{unpackTicketsUnder, plainTicketsUnder, ticketsUnder, openTapeRefusalUnder, openTapeUnder, listingUnder, readNextUnder, printedUnder, UnderInForce, StillUnpacks, NotEight, SameUnlessEight, writtenBytes, OpensAsBefore, baseOrdered, baseRule, TaresBelowGross, BaseRuleLaws, EarlierRuleLaws}
+use Rattle.tape_model.specs.EarlierRules.{unpackTicketsUnder, plainTicketsUnder, ticketsUnder, openTapeRefusalUnder, openTapeUnder, listingUnder, readNextUnder, printedUnder, UnderInForce, StillUnpacks, NotEight, SameUnlessEight, writtenBytes, OpensAsBefore, All, UnpackedIf, AllowedBefore, baseOrdered, baseRule, oneFormOrdered, oneFormRule, timed, EarlierRuleLaws}
 use Rattle.tape_model.proofs.Inverses.{unpack-passed}
-use Rattle.tape_model.proofs.Tickets.{ticket-rule, ticket-told}
+use Rattle.tape_model.proofs.Tickets.{ticket-told, form-first}
 use Rattle.tape_model.proofs.Ranges.{in-ranges, ranges-in}
 use Rattle.tape_model.proofs.Unpacking.{taken-apart, at-under, by-8-under, tickets-by-8, held-size, held-unpack, told}
 use Rattle.tape_model.proofs.Tapes.{unpacks, no-refusal, tapes-come-back}
@@ -274,124 +275,7 @@ module _ (earlier : Rule) (kept : StillUnpacks earlier) where
           lists = lists;
         }
 
--- ## The base's rule
-
--- the two rules on values: the rest of them, and the weights
-abbrev rest : List ℕ → Bool
-rest vs = inRanges form1 vs && leb (getD vs 5 0) (getD vs 6 0)
-
-regrouped : (a b c : Bool) → (a && (b && c)) ≡ ((a && b) && c)
-regrouped true b c = refl
-regrouped false b c = refl
-
-allowed-before : (vs : List ℕ) → baseRule .allows vs ≡ (rest vs && ltb (getD vs 8 0) (getD vs 7 0))
-allowed-before vs = regrouped (inRanges form1 vs) (leb (getD vs 5 0) (getD vs 6 0)) (ltb (getD vs 8 0) (getD vs 7 0))
-
-allowed-now : (vs : List ℕ) → valuesRule vs ≡ (rest vs && leb (getD vs 8 0) (getD vs 7 0))
-unfolding valuesRule ordered
-allowed-now vs = regrouped (inRanges form1 vs) (leb (getD vs 5 0) (getD vs 6 0)) (leb (getD vs 8 0) (getD vs 7 0))
-
--- a ticket; of each pair of facts the first goes from the base's rule to now, the second back
-module _ (s : List ℕ) (t : Ticket) where
-  abbrev values : List ℕ
-  values = ticketValuesUnder baseRule s
-
-  base-unpacked : unpackTicketUnder baseRule s ≡ done t → (unpackTicket s ≡ done t) × (t .tare < t .gross)
-  unfolding unpackTicket unlessRefused
-  base-unpacked e =
-      let p = unpack-passed 7 (eqb (length s) ticketLength) (baseRule .allows values) (ticketOf values) t e in
-      let q = both (rest values) (ltb (getD values 8 0) (getD values 7 0)) (sym (allowed-before values) ∙ p .1) in
-      let l = ltb-true (getD values 8 0) (getD values 7 0) (q .1) in
-      let right : valuesRule values ≡ true = allowed-now values ∙ ap₂ _&&_ (q .0) (le-leb (getD values 8 0) (getD values 7 0) (omega (arith, l))) in
-      (rw (p .0, right) (ap done (p .2)), subst (λ (u : Ticket). u .tare < u .gross) (p .2) l)
-
-  base-unpacks : unpackTicket s ≡ done t → t .tare < t .gross → unpackTicketUnder baseRule s ≡ done t
-  unfolding unlessRefused
-  base-unpacks e l =
-      let p = ticket-told s t e in
-      let q = both (rest values) (leb (getD values 8 0) (getD values 7 0)) (sym (allowed-now values) ∙ p .1) in
-      let m = subst (λ (u : Ticket). u .tare < u .gross) (sym (p .2)) l in
-      let right : baseRule .allows values ≡ true = allowed-before values ∙ ap₂ _&&_ (q .0) (lt-ltb (getD values 8 0) (getD values 7 0) m) in
-      rw (eq-eqb (length s) ticketLength (p .0), right) (ap done (p .2))
-
-base-still-unpacks : StillUnpacks baseRule
-base-still-unpacks s t e = base-unpacked s t e .0
-
--- tickets
-tares-below : (n : ℕ) (s : List ℕ) (ts : List Ticket) → unpackTicketsUnder baseRule n s ≡ done ts → TaresBelowGross ts
-tares-below zero s ts e = subst TaresBelowGross (ap ticketsIn e) tt
-tares-below (suc n) s ts e =
-    taken-apart TaresBelowGross (unpackTicketUnder baseRule (take ticketLength s)) (unpackTicketsUnder baseRule n (drop ticketLength s)) ts e
-    (λ t us f g. (base-unpacked (take ticketLength s) t f .1, tares-below n (drop ticketLength s) us g))
-
-base-unpacks-all : (n : ℕ) (s : List ℕ) (ts : List Ticket) → unpackTickets n s ≡ done ts → TaresBelowGross ts → unpackTicketsUnder baseRule n s ≡ done ts
-unfolding unpackTickets
-base-unpacks-all zero s ts e w = e
-base-unpacks-all (suc n) s ts e w =
-    taken-apart (λ l. TaresBelowGross l → unpackTicketsUnder baseRule (suc n) s ≡ done l) (unpackTicket (take ticketLength s)) (unpackTickets n (drop ticketLength s)) ts e
-    (λ t us f g w. ap₂ ticketThen (base-unpacks (take ticketLength s) t f (w .0)) (base-unpacks-all n (drop ticketLength s) us g (w .1))) w
-
-module _ (s : List ℕ) (ts : List Ticket) where
-  base-held : plainTicketsUnder baseRule s ≡ done ts → (plainTickets s ≡ done ts) × TaresBelowGross ts
-  unfolding plainTicketsUnder
-  base-held e =
-      let h = holding baseRule base-still-unpacks s (λ f. let x = sym e ∙ f in let z : _≡_ {A = ℕ} 0 1 = cc in omega arith) ∙ e in
-      (h, tares-below (length s / ticketLength) s ts (rw (held-size s ts h) at e))
-
-  base-holds : plainTickets s ≡ done ts → TaresBelowGross ts → plainTicketsUnder baseRule s ≡ done ts
-  unfolding plainTicketsUnder
-  base-holds e w = rw (held-size s ts e) (base-unpacks-all (length s / ticketLength) s ts (held-unpack s ts e) w)
-
--- tapes
-module _ (key tape out : List ℕ) (totals : Totals) (after : List ℕ) (ts : List Ticket) (p : plainTickets (writtenBytes totals after) ≡ done ts) where
-  same-list : (us : List Ticket) → plainTickets (writtenBytes totals after) ≡ done us → us ≡ ts
-  same-list us e = ap ticketsIn (sym e ∙ p)
-
-  base-opened : openTapeUnder baseRule key tape out ≡ record { answer = done totals; out = after }
-      → (openTape key tape out ≡ record { answer = done totals; out = after }) × TaresBelowGross ts
-  base-opened e =
-      let o = opens-as-before baseRule base-still-unpacks key tape out totals after e in
-      (o .opens, subst TaresBelowGross (same-list (o .tickets) (o .held)) (base-held _ (o .tickets) (o .held-before) .1))
-
-  base-opens : openTape key tape out ≡ record { answer = done totals; out = after } → TaresBelowGross ts
-      → openTapeUnder baseRule key tape out ≡ record { answer = done totals; out = after }
-  unfolding openTape openTapeUnder openTapeRefusal openTapeRefusalUnder
-  base-opens e w =
-      let accepted = was-accepted key tape out totals after e in
-      let list = same-list (ticketsOn key tape) (opened-held key tape out totals after e) in
-      kept-opening (unpackTickets (ticketCount tape) (plainBytes key tape)) (ticketsUnder baseRule key tape)
-      (λ us f. base-unpacks-all (ticketCount tape) (plainBytes key tape) us f (subst TaresBelowGross (sym list ∙ ap ticketsIn f) w)) key tape out (λ z. omega (arith, accepted, z))
-      ∙ e
-
--- tapes with an empty trip
-module _ (key : List ℕ) (head : Head) (ts : List Ticket) (k : length key ≡ keyLength) (h : headRule head ≡ true) (v : Valid ts) (n : length ts ≤ ticketLimit) (empty : TaresBelowGross ts → ⊥) where
-  abbrev tape : List ℕ
-  tape = tapeOf key head ts
-
-  not-unpacked : isRefused (ticketsUnder baseRule key tape) ≡ true
-  not-unpacked = by (ticketsUnder baseRule key tape) refl
-    where
-      by : (r : Reply (List Ticket)) → ticketsUnder baseRule key tape ≡ r → isRefused r ≡ true
-      by (refused m) e = refl
-      by (done us) e =
-          let same = ap ticketsIn (sym (also baseRule base-still-unpacks (ticketCount tape) (plainBytes key tape) us e) ∙ unpacks key head ts k h v n) in
-          absurd (empty (subst TaresBelowGross same (tares-below (ticketCount tape) (plainBytes key tape) us e)))
-
-  number-8 : (out : List ℕ) → ticketLength * length ts ≤ length out → openTapeRefusalUnder baseRule key tape out ≡ 8
-  unfolding openTapeRefusal openTapeRefusalUnder
-  number-8 out room =
-      only-8 (ticketsUnder baseRule key tape) (unpackTickets (ticketCount tape) (plainBytes key tape)) not-unpacked key tape out (no-refusal key head ts k h v n out room)
-
-  base-refused : (out : List ℕ) → ticketLength * length ts ≤ length out → openTapeUnder baseRule key tape out ≡ record { answer = refused 8; out = out }
-  unfolding openTapeUnder resultOf unlessRefused
-  base-refused out room = ap (λ (m : ℕ). openTapeUnless key tape m (ticketsUnder baseRule key tape) out) (number-8 out room)
-
-  base-listed : printedUnder baseRule (key ++ tape) ≡ refusedLine 8
-  unfolding printedUnder
-  base-listed =
-      ap₂ (listingUnder baseRule) (take-at key tape keyLength k) (drop-at key tape keyLength k)
-      ∙ ap (λ (m : ℕ). listedUnless m (plainTicketsUnder baseRule (plainBytes key tape)) tape)
-      (number-8 (replicate (length tape) 0) (omega (arith, length-replicate {A = ℕ} (length tape) 0, tapes-come-back key head ts k h v n .size)))
+-- ## A rule that allowed fewer tickets
 
 -- readers
 given-told : (r : Reader) (x : Reply Ticket) (t : Ticket) → handedOut x r .answer ≡ done (ticket t) → x ≡ done t
@@ -399,40 +283,194 @@ unfolding handedOut
 given-told r (refused n) t e = absurd (let z : _≡_ {A = ℕ} 0 1 = cc in omega arith)
 given-told r (done u) t e = cc
 
-module _ (r : Reader) (t : Ticket) where
-  base-read : readNextUnder baseRule r .answer ≡ done (ticket t) → (readNext r .answer ≡ done (ticket t)) × (t .tare < t .gross)
-  unfolding readNext readNextUnder handedOut
-  base-read =
-      by-reader (λ f. f (unpackTicketUnder baseRule) .answer ≡ done (ticket t) → (f unpackTicket .answer ≡ done (ticket t)) × (t .tare < t .gross)) r
-      (λ e. absurd (let z : _≡_ {A = ℕ} 0 1 = cc in omega arith)) (λ e. absurd (let z : _≡_ {A = ℕ} 0 1 = cc in omega arith))
-      (λ right below size e.
-      let p = base-unpacked (ahead r) t (given-told r (unpackTicketUnder baseRule (ahead r)) t e) in
-      (ap (λ (x : Reply Ticket). handedOut x r .answer) (p .0), p .1))
+-- of each pair of facts the first goes from the earlier rule to now, the second back
+module _ (earlier : Rule) (Allowed : Ticket → Type 0) (exact : UnpackedIf earlier Allowed) where
+  kept : StillUnpacks earlier
+  kept s t e = exact s t .0 e .0
 
-  base-reads : readNext r .answer ≡ done (ticket t) → t .tare < t .gross → readNextUnder baseRule r .answer ≡ done (ticket t)
-  unfolding readNext readNextUnder handedOut
-  base-reads =
-      by-reader (λ f. f unpackTicket .answer ≡ done (ticket t) → t .tare < t .gross → f (unpackTicketUnder baseRule) .answer ≡ done (ticket t)) r
-      (λ e l. absurd (let z : _≡_ {A = ℕ} 0 1 = cc in omega arith)) (λ e l. absurd (let z : _≡_ {A = ℕ} 0 1 = cc in omega arith))
-      (λ right below size e l. ap (λ (x : Reply Ticket). handedOut x r .answer) (base-unpacks (ahead r) t (given-told r (unpackTicket (ahead r)) t e) l))
+  -- ### Tickets
+
+  all-allowed : (n : ℕ) (s : List ℕ) (ts : List Ticket) → unpackTicketsUnder earlier n s ≡ done ts → All Allowed ts
+  all-allowed zero s ts e = subst (All Allowed) (ap ticketsIn e) tt
+  all-allowed (suc n) s ts e =
+      taken-apart (All Allowed) (unpackTicketUnder earlier (take ticketLength s)) (unpackTicketsUnder earlier n (drop ticketLength s)) ts e
+      (λ t us f g. (exact (take ticketLength s) t .0 f .1, all-allowed n (drop ticketLength s) us g))
+
+  unpacked-all : (n : ℕ) (s : List ℕ) (ts : List Ticket) → unpackTickets n s ≡ done ts → All Allowed ts → unpackTicketsUnder earlier n s ≡ done ts
+  unfolding unpackTickets
+  unpacked-all zero s ts e w = e
+  unpacked-all (suc n) s ts e w =
+      taken-apart (λ l. All Allowed l → unpackTicketsUnder earlier (suc n) s ≡ done l) (unpackTicket (take ticketLength s)) (unpackTickets n (drop ticketLength s)) ts e
+      (λ t us f g w. ap₂ ticketThen (exact (take ticketLength s) t .1 (f, w .0)) (unpacked-all n (drop ticketLength s) us g (w .1))) w
+
+  module _ (s : List ℕ) (ts : List Ticket) where
+    held-now : plainTicketsUnder earlier s ≡ done ts → (plainTickets s ≡ done ts) × All Allowed ts
+    unfolding plainTicketsUnder
+    held-now e =
+        let h = holding earlier kept s (λ f. let x = sym e ∙ f in let z : _≡_ {A = ℕ} 0 1 = cc in omega arith) ∙ e in
+        (h, all-allowed (length s / ticketLength) s ts (rw (held-size s ts h) at e))
+
+    held-then : plainTickets s ≡ done ts → All Allowed ts → plainTicketsUnder earlier s ≡ done ts
+    unfolding plainTicketsUnder
+    held-then e w = rw (held-size s ts e) (unpacked-all (length s / ticketLength) s ts (held-unpack s ts e) w)
+
+  module _ (r : Reader) (t : Ticket) where
+    read-now : readNextUnder earlier r .answer ≡ done (ticket t) → (readNext r .answer ≡ done (ticket t)) × Allowed t
+    unfolding readNext readNextUnder handedOut
+    read-now =
+        by-reader (λ f. f (unpackTicketUnder earlier) .answer ≡ done (ticket t) → (f unpackTicket .answer ≡ done (ticket t)) × Allowed t) r
+        (λ e. absurd (let z : _≡_ {A = ℕ} 0 1 = cc in omega arith)) (λ e. absurd (let z : _≡_ {A = ℕ} 0 1 = cc in omega arith))
+        (λ right below size e.
+        let p = exact (ahead r) t .0 (given-told r (unpackTicketUnder earlier (ahead r)) t e) in
+        (ap (λ (x : Reply Ticket). handedOut x r .answer) (p .0), p .1))
+
+    read-then : readNext r .answer ≡ done (ticket t) → Allowed t → readNextUnder earlier r .answer ≡ done (ticket t)
+    unfolding readNext readNextUnder handedOut
+    read-then =
+        by-reader (λ f. f unpackTicket .answer ≡ done (ticket t) → Allowed t → f (unpackTicketUnder earlier) .answer ≡ done (ticket t)) r
+        (λ e l. absurd (let z : _≡_ {A = ℕ} 0 1 = cc in omega arith)) (λ e l. absurd (let z : _≡_ {A = ℕ} 0 1 = cc in omega arith))
+        (λ right below size e l. ap (λ (x : Reply Ticket). handedOut x r .answer) (exact (ahead r) t .1 (given-told r (unpackTicket (ahead r)) t e, l)))
+
+  -- ### Tapes
+
+  module _ (key tape out : List ℕ) (totals : Totals) (after : List ℕ) (ts : List Ticket) (p : plainTickets (writtenBytes totals after) ≡ done ts) where
+    same-list : (us : List Ticket) → plainTickets (writtenBytes totals after) ≡ done us → us ≡ ts
+    same-list us e = ap ticketsIn (sym e ∙ p)
+
+    opened-now : openTapeUnder earlier key tape out ≡ record { answer = done totals; out = after }
+        → (openTape key tape out ≡ record { answer = done totals; out = after }) × All Allowed ts
+    opened-now e =
+        let o = opens-as-before earlier kept key tape out totals after e in
+        (o .opens, subst (All Allowed) (same-list (o .tickets) (o .held)) (held-now _ (o .tickets) (o .held-before) .1))
+
+    opened-then : openTape key tape out ≡ record { answer = done totals; out = after } → All Allowed ts
+        → openTapeUnder earlier key tape out ≡ record { answer = done totals; out = after }
+    unfolding openTape openTapeUnder openTapeRefusal openTapeRefusalUnder
+    opened-then e w =
+        let accepted = was-accepted key tape out totals after e in
+        let list = same-list (ticketsOn key tape) (opened-held key tape out totals after e) in
+        kept-opening (unpackTickets (ticketCount tape) (plainBytes key tape)) (ticketsUnder earlier key tape)
+        (λ us f. unpacked-all (ticketCount tape) (plainBytes key tape) us f (subst (All Allowed) (sym list ∙ ap ticketsIn f) w)) key tape out (λ z. omega (arith, accepted, z))
+        ∙ e
+
+  -- with a ticket that was not allowed
+  module _ (key : List ℕ) (head : Head) (ts : List Ticket) (k : length key ≡ keyLength) (h : headRule head ≡ true) (v : Valid ts) (n : length ts ≤ ticketLimit) (bad : All Allowed ts → ⊥) where
+    abbrev tape : List ℕ
+    tape = tapeOf key head ts
+
+    not-unpacked : isRefused (ticketsUnder earlier key tape) ≡ true
+    not-unpacked = by (ticketsUnder earlier key tape) refl
+      where
+        by : (r : Reply (List Ticket)) → ticketsUnder earlier key tape ≡ r → isRefused r ≡ true
+        by (refused m) e = refl
+        by (done us) e =
+            let same = ap ticketsIn (sym (also earlier kept (ticketCount tape) (plainBytes key tape) us e) ∙ unpacks key head ts k h v n) in
+            absurd (bad (subst (All Allowed) same (all-allowed (ticketCount tape) (plainBytes key tape) us e)))
+
+    number-8 : (out : List ℕ) → ticketLength * length ts ≤ length out → openTapeRefusalUnder earlier key tape out ≡ 8
+    unfolding openTapeRefusal openTapeRefusalUnder
+    number-8 out room =
+        only-8 (ticketsUnder earlier key tape) (unpackTickets (ticketCount tape) (plainBytes key tape)) not-unpacked key tape out (no-refusal key head ts k h v n out room)
+
+    refused-then : (out : List ℕ) → ticketLength * length ts ≤ length out → openTapeUnder earlier key tape out ≡ record { answer = refused 8; out = out }
+    unfolding openTapeUnder resultOf unlessRefused
+    refused-then out room = ap (λ (m : ℕ). openTapeUnless key tape m (ticketsUnder earlier key tape) out) (number-8 out room)
+
+    listed-then : printedUnder earlier (key ++ tape) ≡ refusedLine 8
+    unfolding printedUnder
+    listed-then =
+        ap₂ (listingUnder earlier) (take-at key tape keyLength k) (drop-at key tape keyLength k)
+        ∙ ap (λ (m : ℕ). listedUnless m (plainTicketsUnder earlier (plainBytes key tape)) tape)
+        (number-8 (replicate (length tape) 0) (omega (arith, length-replicate {A = ℕ} (length tape) 0, tapes-come-back key head ts k h v n .size)))
+
+  allowed-before : AllowedBefore earlier Allowed
+  allowed-before =
+      record {
+        unpacked = exact;
+        held = λ s ts. (held-now s ts, λ h. held-then s ts (h .0) (h .1));
+        read = λ r t. (read-now r t, λ h. read-then r t (h .0) (h .1));
+        opened = λ key tape out totals after ts p. (opened-now key tape out totals after ts p, λ h. opened-then key tape out totals after ts p (h .0) (h .1));
+        refused-before = λ key head ts k h v n bad. (refused-then key head ts k h v n bad, listed-then key head ts k h v n bad);
+      }
+
+-- ## The rules before P6
+
+same-truth : (a b : Bool) → (a ≡ true → b ≡ true) → (b ≡ true → a ≡ true) → a ≡ b
+same-truth true b f g = sym (f refl)
+same-truth false true f g = g refl
+same-truth false false f g = refl
+
+-- Each of the two is the fields of form 1 with a test of its own on the ticket, which passes where today's order holds and something more does.
+module _ (test : Ticket → Bool) (More : Ticket → Type 0) (passes : (t : Ticket) → (test t ≡ true) ↔ ((ordered t ≡ true) × More t)) where
+  abbrev formOneRule : Rule
+  formOneRule = record { fields = λ form. form1; allows = λ vs. inRanges form1 vs && test (ticketOf vs) }
+
+  module _ (s : List ℕ) (t : Ticket) where
+    abbrev values : List ℕ
+    values = unpack (widths form1) s
+
+    form-1-values : formIn s ≡ 1 → ticketValuesIn s ≡ values
+    form-1-values e = ap (λ (form : ℕ). unpack (widths (formatOf form)) s) e
+
+    form-1-now : unpackTicketUnder formOneRule s ≡ done t → (unpackTicket s ≡ done t) × ((t .form ≡ 1) × More t)
+    unfolding unpackTicket unlessRefused valuesRule
+    form-1-now e =
+        let p = unpack-passed 7 (eqb (length s) ticketLength) (formOneRule .allows values) (ticketOf values) t e in
+        let q = both (inRanges form1 values) (test (ticketOf values)) (p .1) in
+        let o = passes (ticketOf values) .0 (q .1) in
+        let r = in-ranges form1 values (q .0) in
+        let one : formIn s ≡ 1 = omega (arith, r .0) in
+        let v = form-1-values one in
+        let right : valuesRule (ticketValuesIn s) ≡ true = ap valuesRule v ∙ ap (λ (form : ℕ). inRanges (formatOf form) values && ordered (ticketOf values)) one ∙ ap₂ _&&_ (q .0) (o .0) in
+        (rw (p .0, right) (ap done (ap ticketOf v ∙ p .2)), (ap (λ (u : Ticket). u .form) (sym (p .2)) ∙ one, subst More (p .2) (o .1)))
+
+    form-1-then : unpackTicket s ≡ done t → (t .form ≡ 1) × More t → unpackTicketUnder formOneRule s ≡ done t
+    unfolding unlessRefused valuesRule
+    form-1-then e w =
+        let p = ticket-told s t e in
+        let one : formIn s ≡ 1 = sym (form-first (formIn s) s) ∙ ap (λ (u : Ticket). u .form) (p .2) ∙ w .0 in
+        let v = form-1-values one in
+        let q = both (inRanges form1 values) (ordered (ticketOf values)) (sym (ap (λ (form : ℕ). inRanges (formatOf form) values && ordered (ticketOf values)) one) ∙ sym (ap valuesRule v) ∙ p .1) in
+        let same : ticketOf values ≡ t = sym (ap ticketOf v) ∙ p .2 in
+        let right : formOneRule .allows values ≡ true = ap₂ _&&_ (q .0) (passes (ticketOf values) .1 (q .1, subst More (sym same) (w .1))) in
+        rw (eq-eqb (length s) ticketLength (p .0), right) (ap done same)
+
+base-passes : (t : Ticket) → (baseOrdered t ≡ true) ↔ ((ordered t ≡ true) × (t .tare < t .gross))
+unfolding ordered
+base-passes t = (
+  λ h.
+      let p = both (leb (t .loaded) (t .tipped)) (ltb (t .tare) (t .gross)) h in
+      let l = ltb-true (t .tare) (t .gross) (p .1) in
+      (ap₂ _&&_ (p .0) (le-leb (t .tare) (t .gross) (omega (arith, l))), l),
+  λ h. let p = both (leb (t .loaded) (t .tipped)) (leb (t .tare) (t .gross)) (h .0) in ap₂ _&&_ (p .0) (lt-ltb (t .tare) (t .gross) (h .1)),
+)
+
+base-exact : UnpackedIf baseRule (λ t. (t .form ≡ 1) × (t .tare < t .gross))
+base-exact s t = (form-1-now baseOrdered (λ u. u .tare < u .gross) base-passes s t, λ h. form-1-then baseOrdered (λ u. u .tare < u .gross) base-passes s t (h .0) (h .1))
+
+one-form-passes : (t : Ticket) → (oneFormOrdered t ≡ true) ↔ ((ordered t ≡ true) × Unit {0})
+unfolding ordered
+one-form-passes t = (λ h. (h, tt), λ h. h .0)
+
+one-form-exact : UnpackedIf oneFormRule (λ t. t .form ≡ 1)
+one-form-exact s t = (
+  λ e. let p = form-1-now oneFormOrdered (λ u. Unit {0}) one-form-passes s t e in (p .0, p .1 .0),
+  λ h. form-1-then oneFormOrdered (λ u. Unit {0}) one-form-passes s t (h .0) (h .1, tt),
+)
 
 -- the rest of the rule
-rest-remains : (t : Ticket) → ticketRule t ≡ (baseRule .allows (ticketValues (weighing 1 0 t)) && (leb (t .gross) 1048575 && leb (t .tare) (t .gross)))
-unfolding ticketRule valuesRule ordered
+rest-remains : (t : Ticket) → oneFormRule .allows (ticketValues t) ≡ (baseRule .allows (ticketValues (weighing 1 0 t)) && (leb (t .gross) 1048575 && leb (t .tare) (t .gross)))
 rest-remains t = same-truth _ _ forth back
   where
-    same-truth : (a b : Bool) → (a ≡ true → b ≡ true) → (b ≡ true → a ≡ true) → a ≡ b
-    same-truth true b f g = sym (f refl)
-    same-truth false true f g = g refl
-    same-truth false false f g = refl
-
-    forth : ticketRule t ≡ true → (baseRule .allows (ticketValues (weighing 1 0 t)) && (leb (t .gross) 1048575 && leb (t .tare) (t .gross))) ≡ true
+    forth : oneFormRule .allows (ticketValues t) ≡ true → (baseRule .allows (ticketValues (weighing 1 0 t)) && (leb (t .gross) 1048575 && leb (t .tare) (t .gross))) ≡ true
     forth h =
-        let r = ticket-rule t h in
-        ap₂ _&&_ (ap₂ _&&_ (ranges-in form1 (ticketValues (weighing 1 0 t)) (omega (arith, r .0))) (ap₂ _&&_ (le-leb (t .loaded) (t .tipped) (r .1)) refl))
-        (ap₂ _&&_ (le-leb (t .gross) 1048575 (omega (arith, r .0))) (le-leb (t .tare) (t .gross) (r .2)))
+        let p = both (inRanges form1 (ticketValues t)) (oneFormOrdered t) h in
+        let r = in-ranges form1 (ticketValues t) (p .0) in
+        let o = both (leb (t .loaded) (t .tipped)) (leb (t .tare) (t .gross)) (p .1) in
+        ap₂ _&&_ (ap₂ _&&_ (ranges-in form1 (ticketValues (weighing 1 0 t)) (omega (arith, r))) (ap₂ _&&_ (o .0) refl))
+        (ap₂ _&&_ (le-leb (t .gross) 1048575 (omega (arith, r))) (o .1))
 
-    back : (baseRule .allows (ticketValues (weighing 1 0 t)) && (leb (t .gross) 1048575 && leb (t .tare) (t .gross))) ≡ true → ticketRule t ≡ true
+    back : (baseRule .allows (ticketValues (weighing 1 0 t)) && (leb (t .gross) 1048575 && leb (t .tare) (t .gross))) ≡ true → oneFormRule .allows (ticketValues t) ≡ true
     back h =
         let p = both (baseRule .allows (ticketValues (weighing 1 0 t))) (leb (t .gross) 1048575 && leb (t .tare) (t .gross)) h in
         let q = both (inRanges form1 (ticketValues (weighing 1 0 t))) (baseOrdered (weighing 1 0 t)) (p .0) in
@@ -441,29 +479,54 @@ rest-remains t = same-truth _ _ forth back
         let a = leb-true (t .gross) 1048575 (w .0) in
         let b = leb-true (t .tare) (t .gross) (w .1) in
         let r = in-ranges form1 (ticketValues (weighing 1 0 t)) (q .0) in
-        ap₂ _&&_ (ranges-in (formatOf (t .form)) (ticketValues t) (omega (arith, r, a, b))) (ap₂ _&&_ (o .0) (w .1))
+        ap₂ _&&_ (ranges-in form1 (ticketValues t) (omega (arith, r, a, b))) (ap₂ _&&_ (o .0) (w .1))
 
-base-laws : BaseRuleLaws
-base-laws =
-    record {
-      rest-remains = rest-remains;
-      unpacked = λ s t. (base-unpacked s t, λ h. base-unpacks s t (h .0) (h .1));
-      held = λ s ts. (base-held s ts, λ h. base-holds s ts (h .0) (h .1));
-      read = λ r t. (base-read r t, λ h. base-reads r t (h .0) (h .1));
-      refused-before = λ key head ts k h v n empty. (base-refused key head ts k h v n empty, base-listed key head ts k h v n empty);
-      opened = λ key tape out totals after ts p. (base-opened key tape out totals after ts p, λ h. base-opens key tape out totals after ts p (h .0) (h .1));
-    }
+form-1 : (t : Ticket) → t .form ≡ 1 → ticketRule t ≡ oneFormRule .allows (ticketValues t)
+unfolding ticketRule valuesRule ordered
+form-1 t e = ap (λ (form : ℕ). inRanges (formatOf form) (ticketValues t) && ordered t) e
+
+form-2 : (t : Ticket) → t .form ≡ 2
+    → ticketRule t ≡ (oneFormRule .allows (ticketValues (inForm 1 (timed 0 0 t))) && (leb (t .loaded) (t .tipped) && leb (t .tipped) 86399))
+unfolding ticketRule valuesRule ordered
+form-2 t e = ap (λ (form : ℕ). inRanges (formatOf form) (ticketValues t) && ordered t) e ∙ same-truth _ _ forth back
+  where
+    other : Ticket
+    other = inForm 1 (timed 0 0 t)
+
+    forth : (inRanges form2 (ticketValues t) && ordered t) ≡ true → (oneFormRule .allows (ticketValues other) && (leb (t .loaded) (t .tipped) && leb (t .tipped) 86399)) ≡ true
+    forth h =
+        let p = both (inRanges form2 (ticketValues t)) (ordered t) h in
+        let r = in-ranges form2 (ticketValues t) (p .0) in
+        let o = both (leb (t .loaded) (t .tipped)) (leb (t .tare) (t .gross)) (p .1) in
+        ap₂ _&&_ (ap₂ _&&_ (ranges-in form1 (ticketValues other) (omega (arith, r))) (o .1)) (ap₂ _&&_ (o .0) (le-leb (t .tipped) 86399 (omega (arith, r))))
+
+    back : (oneFormRule .allows (ticketValues other) && (leb (t .loaded) (t .tipped) && leb (t .tipped) 86399)) ≡ true → (inRanges form2 (ticketValues t) && ordered t) ≡ true
+    back h =
+        let p = both (oneFormRule .allows (ticketValues other)) (leb (t .loaded) (t .tipped) && leb (t .tipped) 86399) h in
+        let q = both (inRanges form1 (ticketValues other)) (oneFormOrdered other) (p .0) in
+        let w = both (leb (t .loaded) (t .tipped)) (leb (t .tipped) 86399) (p .1) in
+        let a = leb-true (t .loaded) (t .tipped) (w .0) in
+        let b = leb-true (t .tipped) 86399 (w .1) in
+        let r = in-ranges form1 (ticketValues other) (q .0) in
+        ap₂ _&&_ (ranges-in form2 (ticketValues t) (omega (arith, r, a, b, e))) (ap₂ _&&_ (w .0) (q .1))
 
 -- ## All of it
 
 pub earlier-rule-laws : EarlierRuleLaws
 earlier-rule-laws =
+    let base-kept = kept baseRule _ base-exact in
+    let one-form-kept = kept oneFormRule _ one-form-exact in
     record {
       in-force = under-in-force;
       same = same-unless-eight;
       still-open = opens-as-before;
-      base = base-laws;
-      base-still-unpacks = base-still-unpacks;
-      base-same = same-unless-eight baseRule base-still-unpacks;
-      base-still-open = opens-as-before baseRule base-still-unpacks;
+      allowed = allowed-before;
+      base = record { rest-remains = rest-remains; allowed = allowed-before baseRule _ base-exact };
+      base-still-unpacks = base-kept;
+      base-same = same-unless-eight baseRule base-kept;
+      base-still-open = opens-as-before baseRule base-kept;
+      one-form = record { form-1 = form-1; form-2 = form-2; allowed = allowed-before oneFormRule _ one-form-exact };
+      one-form-still-unpacks = one-form-kept;
+      one-form-same = same-unless-eight oneFormRule one-form-kept;
+      one-form-still-open = opens-as-before oneFormRule one-form-kept;
     }

@@ -9,13 +9,14 @@ use borrow.Author.Tests.{le-leb}
 use Rattle.calls.specs.Calls.{done, writtenOver}
 use Rattle.acorn_model.specs.Machine.{keyLength}
 use Rattle.tape_model.specs.declared.Ticket.{Ticket}
-use Rattle.tape_model.specs.Ticket.{formatOf, ticketLength, ticketValues, ordered, valuesRule, ticketRule, net, headRule}
+use Rattle.tape_model.specs.Format.{inRanges}
+use Rattle.tape_model.specs.Ticket.{form1, form2, ticketLength, ticketValues, ordered, valuesRule, ticketRule, net, headRule}
 use Rattle.tape_model.specs.Tape.{packTickets, tapeOf, totalNet, totalsOf, openTape}
 use Rattle.tape_model.specs.Listing.{decimalBelow, decimal, numbers, headLine, lineEnd, ticketLine, ticketLines, totalLine, listed}
 use Rattle.tape_model.specs.RefusalCases.{goodHead, emptyTrip}
 use Rattle.tape_model.specs.EmptyTrips.{weighing, EmptyTripLaws}
-use Rattle.tape_model.proofs.Ranges.{ranges-in}
-use Rattle.tape_model.proofs.Tickets.{ticket-rule, ticket-laws}
+use Rattle.tape_model.proofs.Ranges.{InRanges, ranges-in}
+use Rattle.tape_model.proofs.Tickets.{of-two, ticket-rule, ticket-laws}
 use Rattle.tape_model.proofs.Tapes.{tapes-come-back}
 
 no-net : (t : Ticket) → t .gross ≡ t .tare → net t ≡ 0
@@ -45,7 +46,11 @@ valid : (t : Ticket) → ticketRule t ≡ true → ticketRule (weighing (t .gros
 unfolding ticketRule valuesRule ordered
 valid t h =
     let r = ticket-rule t h in
-    ap₂ _&&_ (ranges-in (formatOf (t .form)) (ticketValues (weighing (t .gross) (t .gross) t)) (omega (arith, r .0))) (ap₂ _&&_ (le-leb (t .loaded) (t .tipped) (r .1)) (le-leb (t .gross) (t .gross) (omega arith)))
+    ap₂ _&&_
+    (of-two (λ fs. InRanges fs (ticketValues t) → inRanges fs (ticketValues (weighing (t .gross) (t .gross) t)) ≡ true)
+    (λ q. ranges-in form1 (ticketValues (weighing (t .gross) (t .gross) t)) (omega (arith, q)))
+    (λ q. ranges-in form2 (ticketValues (weighing (t .gross) (t .gross) t)) (omega (arith, q))) (t .form) (r .0))
+    (ap₂ _&&_ (le-leb (t .loaded) (t .tipped) (r .1)) (le-leb (t .gross) (t .gross) (omega arith)))
 
 opens : (key out : List ℕ) → length key ≡ keyLength → ticketLength ≤ length out
     → openTape key (tapeOf key goodHead (emptyTrip ∷ [])) out ≡ record { answer = done (record { tickets = 1; net = 0 }); out = writtenOver (packTickets (emptyTrip ∷ [])) out }

@@ -37,7 +37,7 @@ refusal-cases = shown-all tapeRefusalCases refl
 
 pub reader-cases : ReaderCases
 unfolding readNext handedOut plainTotals totalNet net ofPlain mapReply plainTickets unpackTickets isTicketsLength unpackTicket unlessRefused packTicket valuesRule ordered
-reader-cases = record { too-short = refl; not-whole = refl; bad = refl; bad-first = refl; bad-second = refl; tare-above = refl; empty-trip = refl; empty-trip-totals = refl; no-totals = (refl, refl, refl) }
+reader-cases = record { too-short = refl; not-whole = refl; bad = refl; bad-first = refl; bad-second = refl; tare-above = refl; empty-trip = refl; empty-trip-totals = refl; form-2 = refl; form-3 = refl; no-totals = (refl, refl, refl) }
 
 pub packing-cases : PackingCases
 unfolding packTicketInto packHeadInto resultOf unlessRefused ticketRule valuesRule ordered headRule packHead packTicket unpackTicket unpackHead

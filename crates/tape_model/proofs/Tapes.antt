@@ -6,7 +6,7 @@ use Prim.Native.Nat.{ℕ, zero, suc, _+_, _-_, _*_, _/_, _%_, _≤_}
 use native.Mathlib.Omega.{arith}
 use lib.Dec.{ltb, eqb}
 use lib.ListN.{length, take, drop, replicate, length-append, length-replicate}
-use lib.Seq.{take-at, drop-at, drop-drop}
+use lib.Seq.{take-at, drop-at, drop-drop, take-all}
 use borrow.Author.Tests.{le-leb, lt-leb, le-ltb, eq-eqb}
 use Rattle.calls.specs.Calls.{AreBytes, _if_else_, refused, Reply, done, mapReply, accepted, unlessRefused, writtenOver, resultOf, isRefused}
 use Rattle.acorn_model.specs.Machine.{keyLength, nonceLength}
@@ -18,14 +18,14 @@ use Rattle.acorn_model.proofs.Proved.{opening-exact}
 use Rattle.tape_model.specs.declared.Ticket.{Ticket}
 use Rattle.tape_model.specs.declared.Head.{Head}
 use Rattle.tape_model.specs.Format.{widths}
-use Rattle.tape_model.specs.Ticket.{formatOf, ticketLength, ordered, valuesRule, ticketRule, packTicket, unpackTicket, headLength, headRule, packHead, unpackHead}
+use Rattle.tape_model.specs.Ticket.{formatOf, formIn, ticketLength, ordered, valuesRule, ticketRule, packTicket, unpackTicket, headLength, headRule, packHead, unpackHead}
 use Rattle.tape_model.specs.Tape.{ticketLimit, nonceOf, packTickets, tapeOf, isTicketsLength, ticketThen, unpackTickets, plainTickets, ticketsIn, totalNet, totalsOf, ofPlain, plainTotals, emptyTapeLength, isTapeLength, headBytes, sealedBytes, ticketCount, plainBytes, openTapeRefusal, openTape}
 use Rattle.tape_model.specs.Reader.{ticket, atEnd, Reader, readerOver, readNext, stays, handedOut}
 use Rattle.tape_model.specs.Listing.{headLine, ticketLines, lineOfTotals, totalLine, listed, listingUnless, listing, printed}
 use Rattle.tape_model.specs.Laws.{Valid, readings, readerAfter, asReadings, TapeLaws, TapesComeBack, tapeWithText, BadTickets}
 use Rattle.tape_model.specs.RefusalCases.{goodHead, badTicket, lastByteC1}
 use Rattle.tape_model.proofs.Ranges.{pack-bytes}
-use Rattle.tape_model.proofs.Tickets.{ticket-inverse, head-inverse, ticket-length, ticket-bytes, head-length}
+use Rattle.tape_model.proofs.Tickets.{ticket-inverse, head-inverse, ticket-length, ticket-bytes, head-length, ticket-laws}
 use Rattle.tape_model.proofs.Unpacking.{sized-hold, refused-size}
 
 -- ## Plain bytes
@@ -268,5 +268,17 @@ tare-above : (key out : List ℕ) → length key ≡ keyLength → 13 ≤ length
 unfolding headRule plainTickets isTicketsLength unpackTickets unpackTicket unlessRefused packTicket valuesRule ordered
 tare-above key out k room = eight key goodHead (packTicket badTicket) out k refl (ticket-bytes badTicket) room refl
 
+-- the bytes of one ticket
+one-bad : (s : List ℕ) → length s ≡ ticketLength → unpackTicket s ≡ refused 8 → plainTickets s ≡ refused 8
+unfolding unpackTickets isTicketsLength
+one-bad s n e =
+    sized-hold s (ap isTicketsLength n) ∙ ap (λ (k : ℕ). unpackTickets (k / ticketLength) s) n
+    ∙ ap (λ (r : Reply Ticket). ticketThen r (done [])) (ap unpackTicket (take-all ticketLength s (omega (arith, n))) ∙ e)
+
+other-form : (key : List ℕ) (head : Head) (string out : List ℕ) → length key ≡ keyLength → headRule head ≡ true → AreBytes string → length string ≡ ticketLength
+    → ticketLength ≤ length out → (formIn string ≡ 1 → ⊥) → (formIn string ≡ 2 → ⊥)
+    → openTape key (tapeWithText key head string) out ≡ record { answer = refused 8; out = out }
+other-form key head string out k h bytes n room not1 not2 = eight key head string out k h bytes (omega (arith, n, room)) (one-bad string n (ticket-laws .other-form string bytes n not1 not2))
+
 pub bad-tickets : BadTickets
-bad-tickets = record { eight = eight; last-byte-C1 = last-byte-C1; tare-above = tare-above }
+bad-tickets = record { eight = eight; last-byte-C1 = last-byte-C1; tare-above = tare-above; other-form = other-form }

@@ -57,8 +57,14 @@ pub record TicketLaws : Type 0 where
   -- a head in its ranges fits its fields' widths, and one that fits, in its ranges or not, comes back from its bytes as its values
   pub head-fit : (h : Head) → headRule h ≡ true → Fit (widths headFormat) (headValues h)
   pub head-values : (h : Head) → Fit (widths headFormat) (headValues h) → headValuesIn (packHead h) ≡ headValues h
-  -- the first four bits of a packed ticket are its form, by whichever form's fields the bytes are read
-  pub form-first : (form : ℕ) (string : List ℕ) → AreBytes string → length string ≡ ticketLength → getD (unpack (widths (formatOf form)) string) 0 0 ≡ formIn string
+  -- a valid ticket's form is 1 or 2, and the form in its packed bytes is its own
+  pub two-forms : (t : Ticket) → ticketRule t ≡ true → (t .form ≡ 1) ⊎ (t .form ≡ 2)
+  pub form-packed : (t : Ticket) → ticketRule t ≡ true → formIn (packTicket t) ≡ t .form
+  -- bytes with another form do not unpack
+  pub other-form : (string : List ℕ) → AreBytes string → length string ≡ ticketLength → (formIn string ≡ 1 → ⊥) → (formIn string ≡ 2 → ⊥) → unpackTicket string ≡ refused 8
+  -- the first four bits choose the table: they are the form, by whichever form's fields the rest is read; in bytes, the upper half of the first
+  pub form-first : (form : ℕ) (string : List ℕ) → getD (unpack (widths (formatOf form)) string) 0 0 ≡ formIn string
+  pub form-in-bytes : (string : List ℕ) → AreBytes string → length string ≡ ticketLength → formIn string ≡ getD string 0 0 / 16
   -- a tape's nonce: its packed head, filled up with zeros
   pub nonce : (h : Head) → nonceOf (packHead h) ≡ packHead h ++ (0 ∷ 0 ∷ 0 ∷ 0 ∷ 0 ∷ 0 ∷ 0 ∷ [])
   -- the total net of one ticket is its gross minus its tare, and that of two lists together is the sum
@@ -185,6 +191,10 @@ pub record BadTickets : Type 0 where
   -- tare 6, gross 5
   pub tare-above : (key out : List ℕ) → length key ≡ keyLength → 13 ≤ length out
       → openTape key (tapeWithText key goodHead (packTicket badTicket)) out ≡ record { answer = refused 8; out = out }
+  -- 13 bytes whose form is not 1 or 2, whatever else they hold
+  pub other-form : (key : List ℕ) (head : Head) (string out : List ℕ) → length key ≡ keyLength → headRule head ≡ true → AreBytes string → length string ≡ ticketLength
+      → ticketLength ≤ length out → (formIn string ≡ 1 → ⊥) → (formIn string ≡ 2 → ⊥)
+      → openTape key (tapeWithText key head string) out ≡ record { answer = refused 8; out = out }
 
 -- ## The plain writer
 

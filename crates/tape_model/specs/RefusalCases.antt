@@ -12,7 +12,7 @@ use Rattle.tape_model.specs.declared.Ticket.{Ticket}
 use Rattle.tape_model.specs.declared.Head.{Head}
 use Rattle.tape_model.specs.declared.WriterPhase.{WriterPhase}
 use Rattle.tape_model.specs.declared.WriterPhase.the-variants.{Fresh, Open, Closed}
-use Rattle.tape_model.specs.Ticket.{packTicket, unpackTicket, packTicketInto, packHead, unpackHead, packHeadInto}
+use Rattle.tape_model.specs.Ticket.{inForm, packTicket, unpackTicket, packTicketInto, packHead, unpackHead, packHeadInto}
 use Rattle.tape_model.specs.Tape.{isTicketsLength, plainTotals, isTapeLength, openTapeRefusal}
 use Rattle.tape_model.specs.Writer.{PlainWriter, WriterCall, start, add, finish, refusal}
 use Rattle.tape_model.specs.Reader.{Reader, ticket, stays, readNext}
@@ -23,7 +23,7 @@ abbrev pub writerWith : WriterPhase → ℕ → PlainWriter
 writerWith phase tickets = record { machine = fresh Sealing; phase = phase; tickets = tickets }
 
 -- the head of case (i), and one with these values; the ticket of case (h), the one of the table's example, tare 6 and gross 5 (P2 of
--- document 02), and an empty trip
+-- document 02), an empty trip, and the ticket of case (h) in form 2, tipped in the last second of the day (P6)
 abbrev pub headWith : ℕ → ℕ → ℕ → Head
 headWith device shift sheet = record { device = device; shift = shift; sheet = sheet }
 
@@ -38,6 +38,9 @@ badTicket = ticketWith 3600 4200 5 6
 
 abbrev pub emptyTrip : Ticket
 emptyTrip = ticketWith 3600 4200 5 5
+
+abbrev pub wholeDayTicket : Ticket
+wholeDayTicket = inForm 2 (ticketWith 3600 86399 250000 110000)
 
 -- a call of such a writer, and the number; opening of a tape into an output, and the number; whether so many bytes are a tape's, or a reader's
 pub data RefusalCase : Type 0 where
@@ -88,6 +91,13 @@ tapeRefusalCases =
     ∷ writes Open 0 (add emptyTrip (string 13)) accepted
     ∷ writes Open 0 (add (ticketWith 3600 4200 0 0) (string 13)) accepted
     ∷ writes Open 0 (add (ticketWith 3600 4200 0 1) (string 13)) 4
+    ∷ writes Open 0 (add (ticketWith 3600 43199 250000 110000) (string 13)) accepted
+    ∷ writes Open 0 (add (ticketWith 3600 43200 250000 110000) (string 13)) 4
+    ∷ writes Open 0 (add wholeDayTicket (string 13)) accepted
+    ∷ writes Open 0 (add (inForm 2 (ticketWith 3600 86400 250000 110000)) (string 13)) 4
+    ∷ writes Open 0 (add (inForm 0 goodTicket) (string 13)) 4
+    ∷ writes Open 0 (add (inForm 3 goodTicket) (string 13)) 4
+    ∷ writes Open 0 (add (inForm 15 goodTicket) (string 13)) 4
     -- 5
     ∷ writes Open 4999 (add goodTicket (string 13)) accepted
     ∷ writes Open 5000 (add goodTicket (string 13)) 5
@@ -132,6 +142,9 @@ pub record ReaderCases : Type 0 where
   pub tare-above : readNext (readerWith (packTicket badTicket) 0) ≡ stays (readerWith (packTicket badTicket) 0) (refused 8)
   pub empty-trip : readNext (readerWith (packTicket emptyTrip) 0) ≡ record { next = readerWith (packTicket emptyTrip) 1; answer = done (ticket emptyTrip) }
   pub empty-trip-totals : plainTotals (packTicket emptyTrip) ≡ done (record { tickets = 1; net = 0 })
+  -- forms 2 and 3
+  pub form-2 : readNext (readerWith (packTicket wholeDayTicket) 0) ≡ record { next = readerWith (packTicket wholeDayTicket) 1; answer = done (ticket wholeDayTicket) }
+  pub form-3 : readNext (readerWith (packTicket (inForm 3 goodTicket)) 0) ≡ stays (readerWith (packTicket (inForm 3 goodTicket)) 0) (refused 8)
   pub no-totals : (plainTotals (string 12) ≡ refused 2) × (plainTotals lastByteC1 ≡ refused 8) × (plainTotals (packTicket badTicket) ≡ refused 8)
 
 -- tickets and heads packed into lent bytes, and unpacked, by themselves

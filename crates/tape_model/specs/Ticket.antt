@@ -1,7 +1,8 @@
--- Document 01, "Ticket, head, tape", on tickets and heads: their formats and rules, how they are packed, and what bytes unpack to.
+-- Document 01, "Ticket, head, tape", on tickets and heads: their formats and rules, how they are packed, and what bytes unpack to. Document 02, P6, adds
+-- the second form.
 use mathlib.Core.Bool.{Bool, not, _&&_}
 use mathlib.Core.List.{List, [], _∷_}
-use Prim.Native.Nat.{ℕ, _-_, _/_}
+use Prim.Native.Nat.{ℕ, _-_}
 use lib.Dec.{leb, ltb, eqb}
 use lib.ListN.{length, getD}
 use Rattle.calls.specs.Calls.{replyOf, _if_else_, Reply, refused, done, accepted, Result, resultOf}
@@ -30,9 +31,24 @@ form1 =
     ∷ 2 bits 0 to 0
     ∷ []
 
--- the fields of a ticket of this form: form 1's, whose first row refuses every other form
+-- form 2: loaded and tipped have one bit more each, for the seconds of a whole day, and there are no spare bits
+abbrev pub form2 : List Field
+form2 =
+    4 bits 2 to 2
+    ∷ 10 bits 1 to 1023
+    ∷ 6 bits 1 to 63
+    ∷ 6 bits 1 to 63
+    ∷ 4 bits 0 to 9
+    ∷ 17 bits 0 to 86399
+    ∷ 17 bits 0 to 86399
+    ∷ 20 bits 0 to 1048575
+    ∷ 20 bits 0 to 1048575
+    ∷ 0 bits 0 to 0
+    ∷ []
+
+-- the fields of a ticket of this form; a form other than 1 and 2 gets form 1's, whose first row refuses it
 abbrev pub formatOf : ℕ → List Field
-formatOf form = form1
+formatOf form = form2 if eqb form 2 else form1
 
 -- the bytes of a packed ticket
 abbrev pub ticketLength : ℕ
@@ -54,6 +70,21 @@ ticketOf vs =
       tipped = getD vs 6 0;
       gross = getD vs 7 0;
       tare = getD vs 8 0;
+    }
+
+-- the ticket with another form, every other field kept
+abbrev pub inForm : ℕ → Ticket → Ticket
+inForm form t =
+    record {
+      form = form;
+      truck = t .truck;
+      shovel = t .shovel;
+      tip = t .tip;
+      grade = t .grade;
+      loaded = t .loaded;
+      tipped = t .tipped;
+      gross = t .gross;
+      tare = t .tare;
     }
 
 -- loaded at most tipped, and tare at most gross (document 01 as P2 of document 02 amends it)
@@ -86,9 +117,9 @@ net t = t .gross - t .tare
 unfoldable pub packTicket : Ticket → List ℕ
 packTicket t = pack (widths (formatOf (t .form))) ticketLength (ticketValues t)
 
--- the form in packed bytes, which is their first four bits
+-- the form in packed bytes: the first four of the 104 bits
 abbrev pub formIn : List ℕ → ℕ
-formIn string = getD string 0 0 / 16
+formIn string = getD (unpack (4 ∷ 100 ∷ []) string) 0 0
 
 module _ (rule : Rule) where
   -- the values in packed bytes

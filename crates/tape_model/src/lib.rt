@@ -25,7 +25,7 @@ pub enum WriterPhase {
     Closed,
 }
 
-// The answer of unpacking a ticket: a refusal number, or the ticket.
+// The answer of unpacking a ticket, and of moving one to a form: a refusal number, or the ticket.
 pub enum UnpackedTicket {
     Refused(u8),
     Done(Ticket),

@@ -3,3 +3,4 @@ pub mod Reading
 pub mod Summing
 pub mod WordBytes
 pub mod Writing
+pub mod Rules

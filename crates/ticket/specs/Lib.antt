@@ -1,2 +1,3 @@
 pub mod Contracts
 pub mod Packing
+pub mod Rule

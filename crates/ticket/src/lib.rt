@@ -10,6 +10,7 @@ ghost use Rattle.tape_model.specs.Format.{join, cut, byteWidths, widths};
 ghost use Rattle.tape_model.specs.Ticket as model;
 ghost use Rattle.tape_model.specs.Tape.{isTicketsLength, plainTotals, totalsReply};
 ghost use Rattle.ticket.specs.Packing.{packedOrZeros, nonceOrZeros};
+ghost use Rattle.ticket.specs.Rule.{lastSecond, tippedInRange, placeRule, loadRule};
 ghost use Rattle.ticket.specs.Contracts.{PacksTicket, PacksHead, UnpacksTicket, UnpacksHead};
 use calls::Written;
 use tape_model::HEAD_LENGTH;
@@ -21,16 +22,25 @@ use tape_model::TicketTotals;
 use tape_model::UnpackedHead;
 use tape_model::UnpackedTicket;
 
-// The ticket rule. By the two orders, loaded and tare are in their ranges where tipped and gross are.
+// The last second that loaded and tipped may have: of half a day in form 1, of a whole day in form 2. By the two orders, loaded and tare are in their ranges where
+// tipped and gross are.
+fn last_second(t: Ticket) -> u32
+    ensures { λ r. ⌜ r ≡ lastSecond t ⌝ }
+{
+    if t.form == 2 { 86399 } else { 43199 }
+}
+
+// The ticket rule, as one chain of tests.
 pub fn valid(t: Ticket) -> bool
     ensures { λ r. ⌜ r ≡ model.ticketRule t ⌝ }
 {
-    ((1 <= t.form) & (t.form <= 1))
+    let last = last_second(t);
+    ((1 <= t.form) & (t.form <= 2))
         & ((1 <= t.truck) & (t.truck <= 1023))
         & ((1 <= t.shovel) & (t.shovel <= 63))
         & ((1 <= t.tip) & (t.tip <= 63))
         & (t.grade <= 9)
-        & (t.tipped <= 43199)
+        & (t.tipped <= last)
         & (t.gross <= 1048575)
         & (t.loaded <= t.tipped)
         & (t.tare <= t.gross)
@@ -74,14 +84,23 @@ fn words_of(t: Ticket) -> Words
     requires { ⌜ model.ticketRule t ≡ true ⌝ }
     ensures { λ r. ⌜ (r .low < 2 ^ 40) × (r .high * 2 ^ 40 + r .low ≡ join (widths (model.formatOf (t .form))) (model.ticketValues t)) ⌝ }
 {
+    let loaded = t.loaded as u64;
+    let tipped = t.tipped as u64;
     let gross = t.gross as u64;
+    let tare = t.tare as u64;
     let load = (((t.form as u64) * 1024 + (t.truck as u64)) * 64 + (t.shovel as u64)) * 1024
         + (t.tip as u64) * 16
         + (t.grade as u64);
-    Words {
-        high: ((load * 65536 + (t.loaded as u64)) * 65536 + (t.tipped as u64)) * 4
-            + gross / 0x4_0000,
-        low: gross % 0x4_0000 * 0x40_0000 + (t.tare as u64) * 4,
+    if t.form == 2 {
+        Words {
+            high: (load * 0x2_0000 + loaded) * 0x2_0000 + tipped,
+            low: gross * 0x10_0000 + tare,
+        }
+    } else {
+        Words {
+            high: ((load * 0x1_0000 + loaded) * 0x1_0000 + tipped) * 4 + gross / 0x4_0000,
+            low: gross % 0x4_0000 * 0x40_0000 + tare * 4,
+        }
     }
 }
 
@@ -177,12 +196,13 @@ pub fn pack_head(h: Head, out: &mut [u8]) -> Written
     put(&packed, out)
 }
 
-// The ticket in a number of 104 bits, by its first 64 bits and its last 64.
-fn ticket_in(h: u64, l: u64) -> Ticket
-    ensures { λ r. ⌜ ((n : ℕ) → h ≡ n / 2 ^ 40 → l ≡ n % 2 ^ 64 → r ≡ model.ticketOf (cut (widths (model.formatOf (n / 2 ^ 100))) n)) ⌝ }
+// The ticket in a number of 104 bits that begins with form 1, by its first 64 bits and its last 64.
+fn ticket_in_form_1(h: u64, l: u64) -> Ticket
+    requires { ⌜ h / 2 ^ 60 ≡ 1 ⌝ }
+    ensures { λ r. ⌜ (r .form ≡ 1) × ((n : ℕ) → h ≡ n / 2 ^ 40 → l ≡ n % 2 ^ 64 → r ≡ model.ticketOf (cut (widths model.form1) n)) ⌝ }
 {
     Ticket {
-        form: (h / 0x1000_0000_0000_0000) as u8,
+        form: 1,
         truck: (h / 0x4_0000_0000_0000 % 1024) as u16,
         shovel: (h / 0x1000_0000_0000 % 64) as u8,
         tip: (h / 0x40_0000_0000 % 64) as u8,
@@ -194,7 +214,50 @@ fn ticket_in(h: u64, l: u64) -> Ticket
     }
 }
 
-// The ticket in packed bytes: 2 for another size than 13, 8 where its values or spare bits break the rule.
+// The same with form 2.
+fn ticket_in_form_2(h: u64, l: u64) -> Ticket
+    requires { ⌜ h / 2 ^ 60 ≡ 2 ⌝ }
+    ensures { λ r. ⌜ (r .form ≡ 2) × ((n : ℕ) → h ≡ n / 2 ^ 40 → l ≡ n % 2 ^ 64 → r ≡ model.ticketOf (cut (widths model.form2) n)) ⌝ }
+{
+    Ticket {
+        form: 2,
+        truck: (h / 0x4_0000_0000_0000 % 1024) as u16,
+        shovel: (h / 0x1000_0000_0000 % 64) as u8,
+        tip: (h / 0x40_0000_0000 % 64) as u8,
+        grade: (h / 0x4_0000_0000 % 16) as u8,
+        loaded: (h / 0x2_0000 % 0x2_0000) as u32,
+        tipped: (h % 0x2_0000) as u32,
+        gross: (l / 0x10_0000 % 0x10_0000) as u32,
+        tare: (l % 0x10_0000) as u32,
+    }
+}
+
+// Whether tipped is in its range.
+fn tipped_in_range(t: Ticket) -> bool
+    ensures { λ r. ⌜ r ≡ tippedInRange t ⌝ }
+{
+    t.tipped <= last_second(t)
+}
+
+// The ranges of truck, shovel, tip point and grade.
+fn place_valid(read: Ticket) -> bool
+    ensures { λ r. ⌜ r ≡ placeRule read ⌝ }
+{
+    ((1 <= read.truck) & (read.truck <= 1023))
+        & ((1 <= read.shovel) & (read.shovel <= 63))
+        & ((1 <= read.tip) & (read.tip <= 63))
+        & (read.grade <= 9)
+}
+
+// The range of gross, and the two orders.
+fn load_valid(read: Ticket) -> bool
+    ensures { λ r. ⌜ r ≡ loadRule read ⌝ }
+{
+    (read.gross <= 1048575) & (read.loaded <= read.tipped) & (read.tare <= read.gross)
+}
+
+// The ticket in packed bytes: 2 for another size than 13, 8 where its values or spare bits, which form 1 alone has, break the rule. Form 1 is told by
+// the first byte, and form 2 by the first word: were both told by the word, the compiler would test it for form 2 first.
 pub fn unpack_ticket(packed: &[u8]) -> UnpackedTicket
     ensures { λ r. ⌜ UnpacksTicket (now (packed .entry)) r ⌝ }
 {
@@ -203,8 +266,26 @@ pub fn unpack_ticket(packed: &[u8]) -> UnpackedTicket
     }
     let h = word::read(&packed[0..8]);
     let l = word::read(&packed[5..13]);
-    let t = ticket_in(h, l);
-    if (l % 4 == 0) & valid(t) {
+    let t = if packed[0] / 16 == 1 {
+        if l % 4 != 0 {
+            return UnpackedTicket::Refused(8);
+        }
+        let t = ticket_in_form_1(h, l);
+        if !tipped_in_range(t) {
+            return UnpackedTicket::Refused(8);
+        }
+        t
+    } else {
+        if h / 0x1000_0000_0000_0000 != 2 {
+            return UnpackedTicket::Refused(8);
+        }
+        let t = ticket_in_form_2(h, l);
+        if !tipped_in_range(t) {
+            return UnpackedTicket::Refused(8);
+        }
+        t
+    };
+    if place_valid(t) & load_valid(t) {
         UnpackedTicket::Done(t)
     } else {
         UnpackedTicket::Refused(8)

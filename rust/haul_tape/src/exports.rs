@@ -54,7 +54,7 @@ pub struct Opened {
     pub net: u64,
 }
 
-/// The answer of unpacking a ticket; zeros in place of the ticket where refused.
+/// The answer of unpacking or moving a ticket; zeros in place of the ticket where refused.
 #[repr(C)]
 #[derive(Clone, Copy, PartialEq, Eq, Debug)]
 #[must_use = "the call may have been refused"]
@@ -174,6 +174,7 @@ extern "C" {
 
     fn ht_pack_ticket(ticket: Ticket, out: *mut u8, outlen: usize) -> Written;
     fn ht_unpack_ticket(packed: *const u8, packedlen: usize) -> UnpackedTicket;
+    fn ht_move_ticket(ticket: Ticket, form: u8) -> UnpackedTicket;
     fn ht_pack_head(head: Head, out: *mut u8, outlen: usize) -> Written;
     fn ht_unpack_head(packed: *const u8, packedlen: usize) -> UnpackedHead;
 
@@ -406,6 +407,12 @@ pub fn pack_ticket(ticket: Ticket, out: &mut [u8]) -> Written {
 pub fn unpack_ticket(packed: &[u8]) -> UnpackedTicket {
     // SAFETY: see the module's text.
     unsafe { ht_unpack_ticket(packed.as_ptr(), packed.len()) }
+}
+
+/// The ticket in the form asked for, with every other field kept. 4, 11.
+pub fn move_ticket(ticket: Ticket, form: u8) -> UnpackedTicket {
+    // SAFETY: see the module's text.
+    unsafe { ht_move_ticket(ticket, form) }
 }
 
 /// Packs a head. 3, 6.

@@ -1,7 +1,8 @@
 //! Safe calls on the proved haul tape library: ACORN-128 version 3, haul tickets and shift tapes.
 //!
 //! A [`Writer`] seals a shift's [`Ticket`]s behind a [`Head`] as a tape; [`open_tape`] opens it, a
-//! [`Reader`] hands out its tickets, and [`listing`] prints them. [`trucks()`] and [`trucks_of_two`]
+//! [`Reader`] hands out its tickets, and [`listing`] prints them. [`Ticket::in_form`] moves a ticket
+//! between form 1 and form 2, which is for shifts of a whole day. [`trucks()`] and [`trucks_of_two`]
 //! count the trucks on opened tapes, and [`truck_set_of`] gives them as a set of bits. Where two masts
 //! heard one tape, [`parting`] finds the byte in which their receptions part, and [`longer`] hands
 //! back the longer one. [`message`] seals and opens byte messages whole; [`Sealing`] and [`Checking`]

@@ -32,7 +32,7 @@ pub enum Refusal {
     Size = 2,
     /// 3: a head field outside its range.
     Head = 3,
-    /// 4: a ticket to be written breaks a rule.
+    /// 4: a ticket to be written or moved breaks a rule; a form asked for that is neither 1 nor 2.
     Ticket = 4,
     /// 5: more than 65,536 bytes of data, or of text; a 5,001st ticket.
     Limit = 5,
@@ -46,6 +46,8 @@ pub enum Refusal {
     TagLength = 9,
     /// 10: two receptions part. [`Parted`](crate::Parted) has the place, too.
     Parted = 10,
+    /// 11: a ticket of form 2 that is tipped after second 43,199 is asked for in form 1.
+    TooLate = 11,
 }
 
 impl Refusal {
@@ -78,6 +80,7 @@ impl Refusal {
             8 => Refusal::Unpack,
             9 => Refusal::TagLength,
             10 => Refusal::Parted,
+            11 => Refusal::TooLate,
             _ => return None,
         })
     }
@@ -89,13 +92,16 @@ impl fmt::Display for Refusal {
             Refusal::Phase => "the call does not fit the phase",
             Refusal::Size => "a key, nonce, tag, message, tape, ticket or head has a wrong size",
             Refusal::Head => "a head field is outside its range",
-            Refusal::Ticket => "a ticket to be written breaks a rule",
+            Refusal::Ticket => {
+                "a ticket to be written or moved breaks a rule, or there is no such form"
+            }
             Refusal::Limit => "there is too much data or text, or a ticket too many",
             Refusal::Output => "the output is too short",
             Refusal::Tag => "the tag differs",
             Refusal::Unpack => "a ticket does not unpack",
             Refusal::TagLength => "the length asked for a tag is not 8 to 16 bytes",
             Refusal::Parted => "two receptions part",
+            Refusal::TooLate => "a ticket is tipped too late for form 1",
         };
         write!(f, "{reason} (refusal {})", self.number())
     }

@@ -2,8 +2,10 @@ use crate::{exports, Refusal, HEAD_BYTES, TICKET_BYTES};
 
 /// One haul. Its net is `gross` minus `tare`: 0 for an empty trip, where they are equal.
 ///
-/// A ticket is only data: its rule is checked where it is packed or written on a tape, and holds
-/// of every ticket that was unpacked or read.
+/// A ticket has form 1, or form 2 for shifts of a whole day; a tape may have tickets of both.
+///
+/// A ticket is only data: its rule is checked where it is packed, moved to a form or written on a
+/// tape, and holds of every ticket that was unpacked or read.
 ///
 /// ```
 /// use haul_tape::{Refusal, Ticket};
@@ -32,7 +34,7 @@ use crate::{exports, Refusal, HEAD_BYTES, TICKET_BYTES};
 #[repr(C)]
 #[derive(Clone, Copy, PartialEq, Eq, Hash, Debug)]
 pub struct Ticket {
-    /// The ticket's form, 1.
+    /// The ticket's form, 1 or 2.
     pub form: u8,
     /// The truck, 1 to 1,023.
     pub truck: u16,
@@ -44,7 +46,7 @@ pub struct Ticket {
     pub grade: u8,
     /// When the truck was loaded, in seconds of the shift: at most `tipped`.
     pub loaded: u32,
-    /// When it tipped, in seconds of the shift: at most 43,199.
+    /// When it tipped, in seconds of the shift: at most 43,199 in form 1, at most 86,399 in form 2.
     pub tipped: u32,
     /// The weight of truck and load in kilograms, at most 1,048,575.
     pub gross: u32,
@@ -75,6 +77,46 @@ impl Ticket {
     /// - [`Refusal::Unpack`]: they are those of no ticket
     pub fn unpack(packed: &[u8]) -> Result<Ticket, Refusal> {
         exports::unpack_ticket(packed).into_result()
+    }
+
+    /// The ticket in this form, with every other field kept; as it is where it has the form already.
+    /// From one form to the other and back it is the same ticket.
+    ///
+    /// # Errors
+    ///
+    /// The first of these that applies:
+    ///
+    /// - [`Refusal::Ticket`]: the form is neither 1 nor 2, or the ticket breaks a rule
+    /// - [`Refusal::TooLate`]: the ticket has form 2 and is tipped after second 43,199, and form 1 is
+    ///   asked for
+    ///
+    /// ```
+    /// use haul_tape::{Refusal, Ticket};
+    ///
+    /// let ticket = Ticket {
+    ///     form: 1,
+    ///     truck: 5,
+    ///     shovel: 2,
+    ///     tip: 3,
+    ///     grade: 4,
+    ///     loaded: 3_600,
+    ///     tipped: 4_200,
+    ///     gross: 250_000,
+    ///     tare: 110_000,
+    /// };
+    /// let moved = ticket.in_form(2)?;
+    /// assert_eq!(moved, Ticket { form: 2, ..ticket });
+    /// assert_eq!(moved.pack()?[..4], [0x20, 0x14, 0x20, 0xD0]);
+    /// assert_eq!(moved.in_form(1)?.pack(), ticket.pack());
+    ///
+    /// let late = Ticket { tipped: 43_200, ..moved };
+    /// assert_eq!(late.in_form(2), Ok(late));
+    /// assert_eq!(late.in_form(1), Err(Refusal::TooLate));
+    /// assert_eq!(late.in_form(3), Err(Refusal::Ticket));
+    /// # Ok::<(), Refusal>(())
+    /// ```
+    pub fn in_form(&self, form: u8) -> Result<Ticket, Refusal> {
+        exports::move_ticket(*self, form).into_result()
     }
 }
 

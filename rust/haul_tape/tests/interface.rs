@@ -407,6 +407,183 @@ fn tare_above_gross() {
     }
 }
 
+fn timed(form: u8, loaded: u32, tipped: u32) -> Ticket {
+    Ticket {
+        form,
+        loaded,
+        tipped,
+        ..TICKET
+    }
+}
+
+/// Document 01's ticket in form 2, by its bytes.
+#[test]
+fn the_worked_ticket_of_form_2() {
+    let ticket = Ticket { form: 2, ..TICKET };
+    let packed = *b"\x20\x14\x20\xD0\x1C\x20\x10\x68\x3D\x09\x01\xAD\xB0";
+    assert_eq!(ticket.pack(), Ok(packed));
+    assert_eq!(Ticket::unpack(&packed), Ok(ticket));
+    assert_eq!(TICKET.in_form(2).unwrap().pack(), Ok(packed));
+    assert_eq!(ticket.in_form(1).unwrap().pack(), TICKET.pack());
+}
+
+/// Up to its form's last second a ticket is valid and moves; a second later it is neither.
+#[test]
+fn last_seconds_of_the_forms() {
+    for (form, last) in [(1, 43_199), (2, 86_399)] {
+        for loaded in [0, last - 1, last] {
+            let ticket = timed(form, loaded, last);
+            let packed = ticket.pack().unwrap();
+            assert_eq!(Ticket::unpack(&packed), Ok(ticket));
+            assert_eq!(ticket.in_form(form), Ok(ticket));
+        }
+        for (loaded, tipped) in [(0, last + 1), (last, last - 1), (last + 1, last + 1)] {
+            let wrong = timed(form, loaded, tipped);
+            assert_eq!(wrong.pack(), Err(Refusal::Ticket));
+            assert_eq!(wrong.in_form(1), Err(Refusal::Ticket));
+            assert_eq!(wrong.in_form(2), Err(Refusal::Ticket));
+        }
+    }
+    // form 2 goes on where form 1 ends, and past sixteen bits
+    for tipped in [43_200, 65_535, 65_536, 65_536 + 4_200] {
+        for loaded in [0, tipped] {
+            let ticket = timed(2, loaded, tipped);
+            let packed = ticket.pack().unwrap();
+            assert_eq!(Ticket::unpack(&packed), Ok(ticket));
+            assert_eq!(timed(1, loaded, tipped).pack(), Err(Refusal::Ticket));
+        }
+    }
+    for form in (0..=255).filter(|form| ![1, 2].contains(form)) {
+        let wrong = Ticket { form, ..TICKET };
+        assert_eq!(wrong.pack(), Err(Refusal::Ticket));
+        if form < 16 {
+            let mut packed = TICKET.pack().unwrap();
+            packed[0] = packed[0] & 0x0F | form << 4;
+            assert_eq!(Ticket::unpack(&packed), Err(Refusal::Unpack));
+        }
+    }
+}
+
+/// To the other form and back gives the same bytes; 11 where form 1 has no such second.
+#[test]
+fn moved_there_and_back() {
+    for tipped in [0, 1, 4_200, 43_199] {
+        for (form, other) in [(1, 2), (2, 1)] {
+            let ticket = timed(form, tipped / 2, tipped);
+            let there = ticket.in_form(other).unwrap();
+            assert_eq!(there, timed(other, tipped / 2, tipped));
+            assert_ne!(there.pack(), ticket.pack());
+            let back = there.in_form(form).unwrap();
+            assert_eq!(back.pack(), ticket.pack());
+        }
+    }
+    for tipped in [43_200, 65_535, 65_536, 86_399] {
+        let late = timed(2, 0, tipped);
+        assert_eq!(late.in_form(1), Err(Refusal::TooLate));
+        assert_eq!(late.in_form(2), Ok(late));
+    }
+}
+
+/// 4 for every form but 1 and 2 and for a ticket that breaks the rule, before 11; no ticket is
+/// answered where the call is refused.
+#[test]
+fn refused_moves() {
+    let none = Ticket {
+        form: 0,
+        truck: 0,
+        shovel: 0,
+        tip: 0,
+        grade: 0,
+        loaded: 0,
+        tipped: 0,
+        gross: 0,
+        tare: 0,
+    };
+    let refused = |ticket: Ticket, form: u8, refusal: Refusal| {
+        let answer = exports::UnpackedTicket {
+            refused: u32::from(refusal.number()),
+            ticket: none,
+        };
+        assert_eq!(exports::move_ticket(ticket, form), answer);
+        assert_eq!(ticket.in_form(form), Err(refusal));
+    };
+    let late = timed(2, 0, 43_200);
+    refused(late, 1, Refusal::TooLate);
+    let wrong = [
+        Ticket { form: 0, ..late },
+        Ticket { form: 1, ..late },
+        Ticket { form: 3, ..late },
+        Ticket { truck: 0, ..late },
+        Ticket {
+            truck: 1_024,
+            ..late
+        },
+        Ticket { shovel: 64, ..late },
+        Ticket { tip: 0, ..late },
+        Ticket { grade: 10, ..late },
+        Ticket {
+            loaded: 43_201,
+            ..late
+        },
+        Ticket {
+            tare: 250_001,
+            ..late
+        },
+        timed(2, 0, 86_400),
+    ];
+    for form in 0..=255 {
+        for ticket in wrong {
+            refused(ticket, form, Refusal::Ticket);
+        }
+        if ![1, 2].contains(&form) {
+            for ticket in [TICKET, late] {
+                refused(ticket, form, Refusal::Ticket);
+            }
+        }
+    }
+}
+
+/// A tape with tickets of both forms is written, opened, read, listed and counted like others.
+#[test]
+fn both_forms_on_one_tape() {
+    let key = [1; 16];
+    let second = Ticket {
+        truck: 6,
+        ..timed(2, 65_535, 86_399)
+    };
+    let tickets = [TICKET, second, timed(1, 0, 43_199), timed(2, 3_600, 4_200)];
+    let mut tape = [0; 25 + 4 * 13];
+    let mut writer = Writer::new();
+    let mut at = writer.start(&key, HEAD, &mut tape).unwrap().bytes;
+    for ticket in tickets {
+        for wrong in [timed(1, 0, 43_200), timed(2, 0, 86_400), timed(3, 0, 0)] {
+            assert_eq!(writer.add(wrong, &mut tape[at..]), Err(Refusal::Ticket));
+        }
+        at += writer.add(ticket, &mut tape[at..]).unwrap().bytes;
+    }
+    writer.finish(&mut tape[at..]).unwrap();
+
+    let mut out = [0; 1_000];
+    let opened = open_tape(&key, &tape, &mut out).unwrap();
+    assert_eq!((opened.tickets, opened.net), (4, 560_000));
+    let plain = &out[..opened.bytes()];
+    assert_eq!(plain, tickets.map(|t| t.pack().unwrap()).concat());
+    assert!(Reader::new(plain).eq(tickets.map(Ok)));
+    assert_eq!(trucks(plain), Ok(2));
+    let counts = trucks_of_two(plain, &plain[..13]).unwrap();
+    assert_eq!((counts.both, counts.either), (1, 2));
+
+    let bytes = listing(&key, &tape, &mut out).unwrap();
+    let text = std::str::from_utf8(&out[..bytes]).unwrap();
+    let expected = "TAPE 7 2 1\n\
+        1 5 2 3 4 3600 4200 140000\n\
+        2 6 2 3 4 65535 86399 140000\n\
+        3 5 2 3 4 0 43199 140000\n\
+        4 5 2 3 4 3600 4200 140000\n\
+        TOTAL 4 560000\n";
+    assert_eq!(text, expected);
+}
+
 /// The plain bytes of a tape whose tickets have these trucks.
 fn plain(trucks: &[u16]) -> Vec<u8> {
     let packed = |&truck| Ticket { truck, ..TICKET }.pack().unwrap();
@@ -635,7 +812,7 @@ fn partings_as_errors() {
 
 #[test]
 fn numbers_of_refusals() {
-    for number in 1..=10 {
+    for number in 1..=11 {
         let refusal = Refusal::from_number(number).unwrap();
         assert_eq!(u32::from(refusal.number()), number);
         let error: &dyn Error = &refusal;
@@ -644,7 +821,8 @@ fn numbers_of_refusals() {
     assert_eq!(Refusal::from_number(0), None);
     assert_eq!(Refusal::from_number(9), Some(Refusal::TagLength));
     assert_eq!(Refusal::from_number(10), Some(Refusal::Parted));
-    assert_eq!(Refusal::from_number(11), None);
+    assert_eq!(Refusal::from_number(11), Some(Refusal::TooLate));
+    assert_eq!(Refusal::from_number(12), None);
 }
 
 /// What is secret, and what was opened, is not shown.
@@ -676,6 +854,7 @@ fn sessions_are_plain_words() {
     sendable::<exports::Writer>(96);
     sendable::<Ticket>(24);
     sendable::<Head>(12);
+    sendable::<exports::UnpackedTicket>(28);
     sendable::<exports::TruckCount>(8);
     sendable::<exports::TruckCounts>(16);
     sendable::<TruckCounts>(12);

@@ -6,7 +6,7 @@ use haul_tape::{Head, Reader, Refusal, Ticket};
 use haul_tape_twin::machine::Done;
 use haul_tape_twin::reader::{self, Next};
 use haul_tape_twin::receptions::{self, Part, Parted};
-use haul_tape_twin::{listing, message, tape, ticket, trucks};
+use haul_tape_twin::{forms, listing, message, tape, ticket, trucks};
 use std::fmt::Debug;
 
 /// What a call answered, and its output after it.
@@ -233,6 +233,28 @@ pub fn unpack_head(packed: &[u8]) -> Result<Head, u8> {
             Err(number)
         }
     }
+}
+
+/// Moves a ticket to a form.
+#[track_caller]
+pub fn move_ticket(ticket: Ticket, form: u8) -> Result<Ticket, u8> {
+    let library = exports::move_ticket(ticket, form);
+    let answer = match forms::move_ticket(&twin_ticket(ticket), form) {
+        Ok(twin) => {
+            assert_eq!(library.refused, 0, "move {ticket:?} to {form}");
+            assert_eq!(twin_ticket(library.ticket), twin);
+            Ok(library.ticket)
+        }
+        Err(number) => {
+            let refused = u32::from(number);
+            assert_eq!(library.refused, refused, "move {ticket:?} to {form}");
+            assert_eq!(library.ticket, NO_TICKET);
+            Err(number)
+        }
+    };
+    let by_wrapper = ticket.in_form(form).map_err(|refusal| refusal.number());
+    assert_eq!(by_wrapper, answer);
+    answer
 }
 
 /// What stands in place of a ticket where there is none.

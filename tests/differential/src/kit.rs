@@ -4,6 +4,7 @@
 
 mod lists;
 mod messages;
+mod moves;
 mod openings;
 mod packed;
 mod readings;
@@ -41,6 +42,7 @@ pub fn files() -> Vec<File> {
         messages::long_messages(),
         messages::refused_messages(),
         packed::packed(),
+        moves::moves(),
         lists::calls(),
         short_tags::short_tags(),
         short_tags::short_tag_calls(),
@@ -183,12 +185,103 @@ const TARE_ABOVE_GROSS: Ticket = Ticket {
     ..TICKET
 };
 
-/// Tickets that break the rule, each in one place.
+/// Document 01's ticket in form 2.
+const FORM_2: Ticket = Ticket { form: 2, ..TICKET };
+
+/// The same, tipped in the last second of a day.
+const LATE: Ticket = Ticket {
+    tipped: 86_399,
+    ..FORM_2
+};
+
+/// The smallest values that a ticket of form 2 with a net above 0 can have.
+const SMALLEST_FORM_2: Ticket = Ticket {
+    form: 2,
+    ..SMALLEST
+};
+
+/// The ticket of form 2 with the greatest values. Its packed bytes end in ones.
+const GREATEST_FORM_2: Ticket = Ticket {
+    form: 2,
+    loaded: 86_399,
+    tipped: 86_399,
+    tare: 1_048_575,
+    ..GREATEST
+};
+
+/// Tickets of both forms, tipped around the ends of the ranges and the width of form 1.
+fn both_forms() -> Vec<Ticket> {
+    let tipped = |form, loaded, tipped| Ticket {
+        form,
+        loaded,
+        tipped,
+        ..TICKET
+    };
+    vec![
+        TICKET,
+        FORM_2,
+        tipped(1, 3_600, 43_199),
+        tipped(2, 3_600, 43_199),
+        tipped(2, 3_600, 43_200),
+        tipped(2, 43_200, 65_535),
+        tipped(2, 65_535, 65_536),
+        tipped(2, 65_536, 65_536 + 4_200),
+        LATE,
+        SMALLEST,
+        SMALLEST_FORM_2,
+        GREATEST,
+        GREATEST_FORM_2,
+    ]
+}
+
+/// Tickets of form 2 that break the rule, each in one place; and forms that there are not.
+fn broken_forms() -> Vec<Ticket> {
+    let t = FORM_2;
+    let timed = |loaded, tipped| Ticket {
+        loaded,
+        tipped,
+        ..t
+    };
+    vec![
+        Ticket { form: 15, ..t },
+        timed(3_600, 86_400),
+        timed(3_600, 131_071),
+        timed(86_400, 86_400),
+        timed(4_201, 4_200),
+        // More by the seventeenth bit alone, and tipped again at 4,200 in seventeen bits.
+        timed(65_536, 65_535),
+        timed(65_536 + 4_200, 4_200),
+        timed(3_600, 131_072 + 4_200),
+        Ticket { truck: 0, ..t },
+        Ticket { truck: 1_024, ..t },
+        Ticket { shovel: 0, ..t },
+        Ticket { shovel: 64, ..t },
+        Ticket { tip: 0, ..t },
+        Ticket { tip: 64, ..t },
+        Ticket { grade: 10, ..t },
+        Ticket {
+            gross: 1_048_576,
+            ..t
+        },
+        Ticket { tare: 250_001, ..t },
+        Ticket {
+            form: 2,
+            ..TARE_ABOVE_GROSS
+        },
+        Ticket {
+            tare: 1_048_576,
+            ..GREATEST_FORM_2
+        },
+    ]
+}
+
+/// Tickets that break the rule, each in one place. Those that came with form 2 stand in
+/// [`broken_forms`].
 fn broken_tickets() -> Vec<Ticket> {
     let t = TICKET;
     vec![
         Ticket { form: 0, ..t },
-        Ticket { form: 2, ..t },
+        Ticket { form: 3, ..t },
         Ticket { truck: 0, ..t },
         Ticket { truck: 1_024, ..t },
         Ticket { shovel: 0, ..t },
@@ -273,19 +366,21 @@ fn packed_fields<const BYTES: usize>(fields: &[(u32, u32)]) -> Option<[u8; BYTES
         .ok()
 }
 
-/// The packed bytes of a ticket, even if it breaks the rule; `None` if a field does not fit its width.
+/// The packed bytes of a ticket, even if it breaks the rule, with the widths of form 1 if its form is
+/// not 2; `None` if a field does not fit its width.
 pub fn pack_anyway(t: Ticket) -> Option<[u8; 13]> {
+    let (time, spare) = if t.form == 2 { (17, 0) } else { (16, 2) };
     packed_fields(&[
         (t.form.into(), 4),
         (t.truck.into(), 10),
         (t.shovel.into(), 6),
         (t.tip.into(), 6),
         (t.grade.into(), 4),
-        (t.loaded, 16),
-        (t.tipped, 16),
+        (t.loaded, time),
+        (t.tipped, time),
         (t.gross, 20),
         (t.tare, 20),
-        (0, 2),
+        (0, spare),
     ])
 }
 

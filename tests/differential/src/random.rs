@@ -96,7 +96,7 @@ impl Random {
         }
     }
 
-    /// A valid ticket. One in eight is a trip back empty.
+    /// A valid ticket, of either form. One in eight is a trip back empty.
     pub fn ticket(&mut self) -> Ticket {
         match self.once_in(8) {
             true => self.empty_trip(),
@@ -119,12 +119,19 @@ impl Random {
         }
     }
 
-    /// A valid ticket whose tare is below its gross.
+    /// A valid ticket whose tare is below its gross. About half are of form 2, and half of those are
+    /// tipped too late for form 1.
     pub fn ticket_with_load(&mut self) -> Ticket {
-        let tipped = self.between(0, 43_199);
+        let form = self.pick(&[1, 2]);
+        self.ticket_of_form(form)
+    }
+
+    /// A valid ticket of form 1 or 2 whose tare is below its gross.
+    pub fn ticket_of_form(&mut self, form: u8) -> Ticket {
+        let tipped = self.between(0, last_second(form));
         let gross = self.between(1, 1_048_575);
         Ticket {
-            form: 1,
+            form,
             truck: self.between(1, 1_023) as u16,
             shovel: self.between(1, 63) as u8,
             tip: self.between(1, 63) as u8,
@@ -152,30 +159,21 @@ impl Random {
         for _ in 0..1 + self.below(2) {
             let t = &mut ticket;
             match self.below(9) {
-                0 => t.form = self.pick(&[0, 1, 2, 3, 15, 16, 17, 255]),
+                0 => t.form = self.pick(&[0, 1, 2, 3, 15, 16, 17, 18, 255]),
                 1 => t.truck = self.pick(&[0, 1, 1_023, 1_024, 1_025, 2_047, 65_535]),
                 2 => t.shovel = self.pick(&[0, 1, 63, 64, 65, 127, 255]),
                 3 => t.tip = self.pick(&[0, 1, 63, 64, 65, 127, 255]),
                 4 => t.grade = self.pick(&[0, 9, 10, 15, 16, 25, 255]),
                 5 => {
                     let more = t.tipped.saturating_add(1);
-                    let pick = [0, t.tipped, more, 43_199, 43_200, 65_536, u32::MAX];
+                    let pick = [0, t.tipped, more, self.pick(&EDGES_OF_TIMES)];
                     t.loaded = self.pick(&pick);
                 }
                 6 => {
                     let less = t.loaded.saturating_sub(1);
-                    let around = t.tipped.wrapping_add(65_536);
-                    let pick = [
-                        0,
-                        less,
-                        t.loaded,
-                        around,
-                        43_199,
-                        43_200,
-                        65_535,
-                        65_536,
-                        u32::MAX,
-                    ];
+                    let around = [65_536, 131_072].map(|more| t.tipped.wrapping_add(more));
+                    let edges = [(); 2].map(|()| self.pick(&EDGES_OF_TIMES));
+                    let pick = [less, t.loaded, around[0], around[1], edges[0], edges[1]];
                     t.tipped = self.pick(&pick);
                 }
                 7 => {
@@ -227,6 +225,30 @@ const EDGES_OF_SHIFT_AND_SHEET: [u32; 9] = [
     1_048_577,
     u32::MAX,
 ];
+
+/// Around the last seconds of the forms, and around sixteen and seventeen bits.
+const EDGES_OF_TIMES: [u32; 11] = [
+    0,
+    43_199,
+    43_200,
+    65_535,
+    65_536,
+    86_399,
+    86_400,
+    86_401,
+    131_071,
+    131_072,
+    u32::MAX,
+];
+
+/// The last second of the shift in form 1 or 2.
+pub fn last_second(form: u8) -> u32 {
+    match form {
+        1 => 43_199,
+        2 => 86_399,
+        _ => panic!("there is no form {form}"),
+    }
+}
 
 /// The ticket with a tare one above its gross. The greatest gross is lowered, so that the tare fits
 /// its width.

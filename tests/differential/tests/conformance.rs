@@ -198,6 +198,39 @@ fn packed() {
     }
 }
 
+#[test]
+fn moves() {
+    let (mut to, mut as_it_is, mut refused) = ([0; 3], 0, [0; 12]);
+    for fields in lines("moves.txt") {
+        let (call, answer) = parted(&fields);
+        let [name, from @ .., form] = call else {
+            panic!("a ticket and a form: {fields:?}");
+        };
+        assert_eq!(name, "move");
+        let (from, form) = (ticket(from), number(form));
+        let moved = both::move_ticket(from, form);
+        match answer {
+            [done, expected @ .., packed] if done == "done" => {
+                let expected = ticket(expected);
+                assert_eq!(moved, Ok(expected), "{fields:?}");
+                assert_eq!(expected, Ticket { form, ..from });
+                assert_eq!(both::pack_ticket(expected, 13).out, bytes_of(packed));
+                assert_eq!(both::move_ticket(expected, from.form), Ok(from));
+                to[usize::from(form)] += 1;
+                as_it_is += u32::from(form == from.form);
+            }
+            [word, expected] if word == "refused" => {
+                assert_eq!(moved, Err(number(expected)), "{fields:?}");
+                refused[number::<usize>(expected)] += 1;
+            }
+            _ => panic!("no answer: {fields:?}"),
+        }
+    }
+    assert!(to[1..].iter().all(|&some| some > 15), "{to:?}");
+    assert!(as_it_is > 10, "{as_it_is}");
+    assert!(refused[4] > 50 && refused[11] > 10, "{refused:?}");
+}
+
 fn session_call(fields: &[String]) -> SessionCall {
     let bytes = |at: usize| bytes_of(&fields[at]);
     match fields[0].as_str() {

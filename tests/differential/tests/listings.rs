@@ -54,6 +54,12 @@ fn widths_of_numbers() {
         gross: 1_048_575,
         tare: 0,
     };
+    let day = Ticket {
+        form: 2,
+        loaded: 86_399,
+        tipped: 86_399,
+        ..greatest
+    };
     for number in [1_u32, 9, 10, 99, 100, 999_999, 1_000_000] {
         let key = random.block();
         let head = Head {
@@ -65,7 +71,7 @@ fn widths_of_numbers() {
             gross: 0,
             ..smallest
         };
-        let tape = write_tape(&key, head, &[smallest, nothing, greatest, smallest]);
+        let tape = write_tape(&key, head, &[smallest, nothing, greatest, day, smallest]);
         both::listing(&key, &tape);
     }
 }
@@ -104,6 +110,80 @@ fn trips_back_empty() {
             .collect();
         let tape = sealed(&key, head.pack().unwrap(), &plain);
         assert_eq!(both::listing(&key, &tape), b"REFUSED 8\n");
+    }
+}
+
+/// The form is not shown: a ticket has the same line in either.
+#[test]
+fn both_forms() {
+    let mut random = Random::for_test();
+    for _ in 0..200 {
+        let (key, head) = (random.block(), random.head());
+        let tickets: Vec<Ticket> = (0..6).map(|_| random.ticket()).collect();
+        let text = both::listing(&key, &write_tape(&key, head, &tickets));
+        for form in [1, 2] {
+            let moved: Vec<Ticket> = tickets
+                .iter()
+                .map(|&t| both::move_ticket(t, form).unwrap_or(t))
+                .collect();
+            let moved = both::listing(&key, &write_tape(&key, head, &moved));
+            both::same_bytes("the listing of moved tickets", &moved, &text);
+        }
+        for wrong in [
+            Ticket {
+                form: 3,
+                ..random.ticket_of_form(1)
+            },
+            Ticket {
+                tipped: 86_400,
+                ..random.ticket_of_form(2)
+            },
+        ] {
+            let mut tickets = tickets.clone();
+            tickets[random.below(6)] = wrong;
+            let plain: Vec<u8> = tickets
+                .into_iter()
+                .flat_map(pack_anyway)
+                .flatten()
+                .collect();
+            let tape = sealed(&key, head.pack().unwrap(), &plain);
+            assert_eq!(both::listing(&key, &tape), b"REFUSED 8\n");
+        }
+    }
+}
+
+/// Every number has as many digits as it may, in either form, and the listing fits.
+#[test]
+fn the_longest_listing() {
+    let mut random = Random::for_test();
+    let key = random.block();
+    let head = Head {
+        device: u32::MAX,
+        shift: 1_000_000,
+        sheet: 1_000_000,
+    };
+    let day = Ticket {
+        form: 2,
+        truck: 1_023,
+        shovel: 63,
+        tip: 63,
+        grade: 9,
+        loaded: 86_399,
+        tipped: 86_399,
+        gross: 1_048_575,
+        tare: 0,
+    };
+    let half_a_day = Ticket {
+        form: 1,
+        loaded: 43_199,
+        tipped: 43_199,
+        ..day
+    };
+    for tickets in [[day, day], [day, half_a_day], [half_a_day, half_a_day]] {
+        let tape = write_tape(&key, head, &tickets.repeat(2_500));
+        let text = both::listing(&key, &tape);
+        assert_eq!(text.len(), 188_947);
+        assert!(text.len() <= haul_tape::MOST_LISTING_BYTES);
     }
 }
 

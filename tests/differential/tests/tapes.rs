@@ -97,6 +97,77 @@ fn trips_back_empty() {
     }
 }
 
+/// Lists of one form and mixed ones. With every ticket that may be in form 1 moved to the other form
+/// the tape has as many tickets and the same net.
+#[test]
+fn both_forms() {
+    let mut random = Random::for_test();
+    for (form_1, form_2) in [
+        (0, 1),
+        (1, 0),
+        (1, 1),
+        (0, 7),
+        (7, 0),
+        (5, 9),
+        (20, 19),
+        (20, 20),
+        (300, 331),
+        (2_500, 2_500),
+    ] {
+        let mut tickets: Vec<Ticket> = (0..form_1).map(|_| random.ticket_of_form(1)).collect();
+        tickets.extend((0..form_2).map(|_| random.ticket_of_form(2)));
+        random.shuffle(&mut tickets);
+        let moved = tickets
+            .iter()
+            .map(|&t| both::move_ticket(t, 3 - t.form).unwrap_or(t))
+            .collect();
+        let [tape, moved] = [tickets, moved].map(|tickets| tape_of(&mut random, tickets));
+        let [plain, moved_plain] = [&tape, &moved].map(there_and_back);
+        let [opened, moved_opened] =
+            [&tape, &moved].map(|tape| both::open_tape(&tape.key, &tape.bytes, plain.len()).answer);
+        assert_eq!(opened, moved_opened);
+        assert_eq!(both::trucks(&plain), both::trucks(&moved_plain));
+    }
+}
+
+/// Well sealed tapes on which one ticket, wherever it stands, has a form that there is not or is
+/// tipped a second too late for its form.
+#[test]
+fn wrong_forms_and_times() {
+    let mut random = Random::for_test();
+    for (form, tipped) in [
+        (0, 4_200),
+        (3, 4_200),
+        (15, 4_200),
+        (1, 43_200),
+        (1, 65_535),
+        (2, 86_400),
+        (2, 131_071),
+    ] {
+        for place in 0..5 {
+            let Tape {
+                key,
+                tickets,
+                bytes,
+            } = random_tape(&mut random, 5);
+            let mut wrong = tickets.clone();
+            wrong[place] = Ticket {
+                form,
+                loaded: 3_600,
+                tipped,
+                ..wrong[place]
+            };
+            let plain: Vec<u8> = wrong.into_iter().flat_map(pack_anyway).flatten().collect();
+            assert_eq!(plain.len(), 5 * 13);
+            let head = bytes[..9].try_into().unwrap();
+            let ran = both::open_tape(&key, &sealed(&key, head, &plain), plain.len());
+            assert_eq!(ran.answer, Err(8));
+            assert_eq!(ran.out, both::pattern(plain.len()));
+            assert_eq!(both::read(&plain), (tickets[..place].to_vec(), Some(8)));
+        }
+    }
+}
+
 /// Well sealed tapes on which one ticket has a tare one above its gross, wherever it stands.
 #[test]
 fn tare_one_above_gross() {

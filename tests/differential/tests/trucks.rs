@@ -11,13 +11,21 @@ use haul_tape_twin::trucks::TruckCounts;
 /// A change to 13 packed bytes, after which they do not unpack, with its name.
 type Damage = (&'static str, fn(&mut [u8]));
 
-const DAMAGES: [Damage; 14] = [
+/// Those of a ticket of either form.
+const DAMAGES: [Damage; 9] = [
     ("form 0", |p| p[0] &= 0x0F),
+    ("form 3", |p| p[0] = p[0] & 0x0F | 0x30),
     ("form 15", |p| p[0] |= 0xF0),
     ("truck 0", |p| (p[0], p[1]) = (p[0] & 0xF0, p[1] & 0x03)),
     ("shovel 0", |p| (p[1], p[2]) = (p[1] & 0xFC, p[2] & 0x0F)),
     ("tip point 0", |p| (p[2], p[3]) = (p[2] & 0xF0, p[3] & 0x3F)),
     ("grade 15", |p| p[3] |= 0x3C),
+    ("zeros", |p| p.fill(0)),
+    ("ones", |p| p.fill(0xFF)),
+];
+
+/// Those of a ticket of form 1.
+const DAMAGES_OF_FORM_1: [Damage; 6] = [
     ("loaded 1 and tipped 0", |p| {
         (p[3], p[4], p[5]) = (p[3] & 0xFC, 0, 0x04);
         (p[6], p[7]) = (0, p[7] & 0x03);
@@ -35,14 +43,48 @@ const DAMAGES: [Damage; 14] = [
     }),
     ("the first spare bit", |p| p[12] |= 2),
     ("the last spare bit", |p| p[12] |= 1),
-    ("zeros", |p| p.fill(0)),
-    ("ones", |p| p.fill(0xFF)),
 ];
+
+/// Those of a ticket of form 2.
+const DAMAGES_OF_FORM_2: [Damage; 6] = [
+    ("loaded 1 and tipped 0", |p| {
+        (p[3], p[4], p[5]) = (p[3] & 0xFC, 0, 0x02);
+        (p[6], p[7]) = (0, 0);
+    }),
+    ("loaded 65,536 and tipped 65,535", |p| {
+        (p[3], p[4], p[5]) = (p[3] & 0xFC | 0x02, 0, 0);
+        (p[6], p[7]) = (0xFF, 0xFF);
+    }),
+    ("tipped 86,400", |p| {
+        (p[5], p[6], p[7]) = (p[5] | 0x01, 0x51, 0x80);
+    }),
+    ("tipped 131,071", |p| {
+        (p[5], p[6], p[7]) = (p[5] | 0x01, 0xFF, 0xFF);
+    }),
+    ("gross 0 and tare 1,048,575", |p| {
+        (p[8], p[9]) = (0, 0);
+        (p[10], p[11], p[12]) = (0x0F, 0xFF, 0xFF);
+    }),
+    ("gross 0 and tare 1", |p| {
+        (p[8], p[9]) = (0, 0);
+        (p[10], p[11], p[12]) = (0, 0, 0x01);
+    }),
+];
+
+/// All damages of a ticket of this form.
+fn damages_of(form: u8) -> Vec<Damage> {
+    let of_form = match form {
+        1 => DAMAGES_OF_FORM_1,
+        _ => DAMAGES_OF_FORM_2,
+    };
+    [&DAMAGES[..], &of_form].concat()
+}
 
 /// Puts one of the damages into the ticket at a place.
 fn damage(random: &mut Random, plain: &mut [u8], place: usize) {
-    let (_, change) = random.pick(&DAMAGES);
-    change(&mut plain[13 * place..][..13]);
+    let packed = &mut plain[13 * place..][..13];
+    let (_, change) = random.pick(&damages_of(packed[0] >> 4));
+    change(packed);
 }
 
 /// What an opened tape is made as.
@@ -464,6 +506,33 @@ fn trips_back_empty() {
     }
 }
 
+/// The same trucks on tickets of form 1, of form 2 and of both.
+#[test]
+fn both_forms() {
+    let mut random = Random::for_test();
+    for _ in 0..200 {
+        let every = every_truck(&mut random);
+        let number = 1 + random.below(40);
+        let trucks = drawn(&mut random, number, &every[..20]);
+        let of_form = |random: &mut Random, form: u8| -> Vec<u8> {
+            let packed = |&truck: &u16| {
+                let ticket = random.ticket_of_form(form);
+                Ticket { truck, ..ticket }.pack().unwrap()
+            };
+            trucks.iter().flat_map(packed).collect()
+        };
+        let (one, two) = (of_form(&mut random, 1), of_form(&mut random, 2));
+        let mixed = tape(&mut random, &trucks);
+        for plain in [&one, &two, &mixed, &[&one[..], &two].concat()] {
+            assert_eq!(both::trucks(plain), Ok(once_each(trucks.clone())));
+            for other in [&one, &two] {
+                let counts = both::trucks_of_two(plain, other).unwrap();
+                assert_eq!((counts.both, counts.just_one), (counts.either, 0));
+            }
+        }
+    }
+}
+
 #[test]
 fn each_truck_alone() {
     let mut random = Random::for_test();
@@ -510,15 +579,21 @@ fn the_longest_tapes() {
 #[test]
 fn damages() {
     let mut random = Random::for_test();
-    for (what, change) in DAMAGES {
+    let of_forms = [1, 2].map(|form| damages_of(form).into_iter().map(move |d| (form, d)));
+    for (form, (what, change)) in of_forms.into_iter().flatten() {
         for place in 0..4 {
             let every = every_truck(&mut random);
-            let good = tape(&mut random, &every[..4]);
+            let mut good = tape(&mut random, &every[..4]);
+            let ticket = Ticket {
+                truck: every[place],
+                ..random.ticket_of_form(form)
+            };
+            good[13 * place..][..13].copy_from_slice(&ticket.pack().unwrap());
             assert_eq!(both::trucks(&good).unwrap().len(), 4);
             let mut bad = good.clone();
             change(&mut bad[13 * place..][..13]);
             assert_eq!(both::unpack_ticket(&bad[13 * place..][..13]), Err(8));
-            assert_eq!(both::trucks(&bad), Err(8), "{what} at {place}");
+            assert_eq!(both::trucks(&bad), Err(8), "form {form}, {what} at {place}");
             assert_eq!(both::trucks_of_two(&bad, &good), Err(8));
             assert_eq!(both::trucks_of_two(&good, &bad), Err(8));
             assert_eq!(both::trucks_of_two(&bad, &bad), Err(8));
@@ -586,10 +661,15 @@ fn random_bytes() {
                 _ => 13 * random.below(4),
             };
             let mut bytes = random.bytes(length);
-            // Form 1 and spare bits that are zero, so that the other rules are reached.
+            // Form 2, or form 1 and spare bits that are zero, so that the other rules are reached.
             for packed in bytes.chunks_exact_mut(13) {
-                packed[0] = packed[0] & 0x0F | 0x10;
-                packed[12] &= 0xFC;
+                match random.once_in(2) {
+                    true => packed[0] = packed[0] & 0x0F | 0x20,
+                    false => {
+                        packed[0] = packed[0] & 0x0F | 0x10;
+                        packed[12] &= 0xFC;
+                    }
+                }
             }
             bytes
         });

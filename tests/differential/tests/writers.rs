@@ -2,7 +2,7 @@
 
 use haul_tape::Ticket;
 use haul_tape_differential::calls::{WriterCall, Writers};
-use haul_tape_differential::random::{tare_above_gross, Random};
+use haul_tape_differential::random::{last_second, tare_above_gross, Random};
 use haul_tape_twin::tape::WriterPhase;
 
 /// Any call, likely to fit the phase; most arguments are good.
@@ -104,6 +104,45 @@ fn trips_back_empty() {
     }
 }
 
+/// Adds of both forms in turn, and between them of tickets that are tipped a second too late for
+/// their form or have a form that there is not.
+#[test]
+fn both_forms() {
+    let mut random = Random::for_test();
+    for _ in 0..200 {
+        let mut writers = started(&mut random);
+        for added in 1..=10 {
+            let form = random.pick(&[1, 2]);
+            let ticket = random.ticket_of_form(form);
+            let late = Ticket {
+                tipped: last_second(form) + 1,
+                ..ticket
+            };
+            let other = Ticket {
+                form: random.pick(&[0, 3, 15, 17, 18, 255]),
+                ..ticket
+            };
+            let last = Ticket {
+                tipped: last_second(form),
+                ..ticket
+            };
+            for (ticket, room, answer) in [
+                (late, 13, Err(4)),
+                (late, 12, Err(4)),
+                (other, 13, Err(4)),
+                (last, 12, Err(6)),
+                (last, 13, Ok(13)),
+            ] {
+                let ran = writers.call(&WriterCall::Add { ticket, room });
+                assert_eq!(ran.answer.map(|done| done.bytes), answer);
+            }
+            assert_eq!(writers.twin().tickets(), added);
+        }
+        let finish = WriterCall::Finish { room: 16 };
+        assert!(writers.call(&finish).answer.is_ok());
+    }
+}
+
 #[test]
 fn the_5_001st_ticket() {
     let mut random = Random::for_test();
@@ -116,13 +155,24 @@ fn the_5_001st_ticket() {
         };
         assert!(writers.call(&add).answer.is_ok());
     }
-    let broken = Ticket { form: 2, ..ticket };
+    let broken = Ticket { form: 3, ..ticket };
+    let late = Ticket {
+        form: 2,
+        tipped: 86_399,
+        ..ticket
+    };
+    let later = Ticket {
+        tipped: 86_400,
+        ..late
+    };
     let (empty, above) = (random.empty_trip(), tare_above_gross(ticket));
     for (ticket, room, number) in [
         (ticket, 13, 5),
         (ticket, 0, 5),
         (empty, 13, 5),
+        (late, 13, 5),
         (broken, 13, 4),
+        (later, 13, 4),
         (above, 13, 4),
     ] {
         let add = WriterCall::Add { ticket, room };

@@ -129,6 +129,28 @@ mod tests {
         assert_eq!(listing(&KEY, &tape_of(&[empty(5)])), expected);
     }
 
+    /// Lines of both forms look alike.
+    #[test]
+    fn both_forms() {
+        let form_2 = Ticket { form: 2, ..TICKET };
+        let one = listing(&KEY, &tape(1));
+        assert_eq!(listing(&KEY, &tape_of(&[form_2])), one);
+        let late = Ticket {
+            loaded: 43_200,
+            tipped: 86_399,
+            ..form_2
+        };
+        let expected = "TAPE 7 2 1\n\
+            1 5 2 3 4 43200 86399 140000\n\
+            2 5 2 3 4 3600 4200 140000\n\
+            3 5 2 3 4 3600 4200 140000\n\
+            TOTAL 3 420000\n";
+        for two in [[form_2, TICKET], [TICKET, form_2]] {
+            let tape = tape_of(&[&[late][..], &two].concat());
+            assert_eq!(listing(&KEY, &tape), expected.as_bytes());
+        }
+    }
+
     #[test]
     fn refusals() {
         let tape = tape(1);
@@ -145,9 +167,10 @@ mod tests {
 
         let head = &tape[..9];
         let nonce = [head, &[0; 7]].concat();
-        // Form 12, and document 01's ticket with tare 250,001.
+        // Form 12; document 01's ticket with tare 250,001; and that ticket in form 2, tipped at 86,400.
         let tare_above = *b"\x10\x14\x20\xd0\x38\x40\x41\xa0\xf4\x24\x0f\x42\x44";
-        for plain in [[0xC1; 13], tare_above] {
+        let late = *b"\x20\x14\x20\xd0\x1c\x21\x51\x80\x3d\x09\x01\xad\xb0";
+        for plain in [[0xC1; 13], tare_above, late] {
             let mut bad = tape.clone();
             crate::message::seal(&KEY, &nonce, head, &plain, &mut bad[9..]).unwrap();
             assert_eq!(listing(&KEY, &bad), b"REFUSED 8\n");

@@ -1,5 +1,5 @@
 //! The refusal numbers and the limits that go with them (document 01, "What sends a call back";
-//! 9 and 10 are from document 02, P4 and P5).
+//! 9 to 11 are from document 02, P4 to P6).
 //!
 //! The smallest number that applies is answered, but 9 comes right after 1: before 2.
 
@@ -24,6 +24,8 @@ pub const UNPACK: u8 = 8;
 pub const TAG_LENGTH: u8 = 9;
 /// The receptions part; the place goes with it.
 pub const RECEPTIONS: u8 = 10;
+/// A ticket to be moved to form 1 is tipped too late for it.
+pub const TOO_LATE: u8 = 11;
 
 /// The most bytes of data, and the most bytes of text, that one message may have.
 pub const MAX_BYTES: usize = 65_536;

@@ -54,9 +54,15 @@ impl<'a> Reader<'a> {
 #[cfg(test)]
 mod tests {
     use super::*;
+    use crate::testing::TICKET;
 
     const GOOD: [u8; 13] = [
         0x10, 0x14, 0x20, 0xD0, 0x38, 0x40, 0x41, 0xA0, 0xF4, 0x24, 0x06, 0xB6, 0xC0,
+    ];
+
+    /// The same in form 2.
+    const FORM_2: [u8; 13] = [
+        0x20, 0x14, 0x20, 0xD0, 0x1C, 0x20, 0x10, 0x68, 0x3D, 0x09, 0x01, 0xAD, 0xB0,
     ];
 
     #[test]
@@ -104,6 +110,39 @@ mod tests {
         for last in [[0x06, 0xB6, 0xC1], [0x0F, 0x42, 0x44]] {
             let mut bytes = GOOD.repeat(3);
             bytes[23..26].copy_from_slice(&last);
+            let mut reader = Reader::new(&bytes);
+            assert!(matches!(reader.next(), Next::Ticket(_)));
+            for _ in 0..3 {
+                assert_eq!(reader.next(), Next::Refused(8));
+                assert_eq!(reader.position(), 1);
+            }
+        }
+    }
+
+    /// Both forms in one row.
+    #[test]
+    fn hands_out_both_forms() {
+        let bytes = [GOOD, FORM_2, FORM_2, GOOD, FORM_2].concat();
+        let mut reader = Reader::new(&bytes);
+        for form in [1, 2, 2, 1, 2] {
+            let ticket = Ticket { form, ..TICKET };
+            assert_eq!(reader.next(), Next::Ticket(ticket));
+        }
+        assert_eq!(reader.next(), Next::End);
+        assert_eq!(reader.position(), 5);
+    }
+
+    /// The second of form 2 and tipped at 86,400 or at 131,071, or of form 0, 3 or 15.
+    #[test]
+    fn stays_before_a_form_that_does_not_unpack() {
+        let mut bad = [FORM_2; 5];
+        bad[0][5..8].copy_from_slice(&[0x21, 0x51, 0x80]);
+        bad[1][5..8].copy_from_slice(&[0x21, 0xFF, 0xFF]);
+        bad[2][0] = 0x00;
+        bad[3][0] = 0x30;
+        bad[4][0] = 0xF0;
+        for second in bad {
+            let bytes = [FORM_2, second, GOOD].concat();
             let mut reader = Reader::new(&bytes);
             assert!(matches!(reader.next(), Next::Ticket(_)));
             for _ in 0..3 {

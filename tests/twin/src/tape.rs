@@ -208,6 +208,8 @@ mod tests {
             assert_eq!(writer.tickets(), n as u64);
             assert_eq!(writer.steps(), 3_144 + 104 * n as u64);
             assert_eq!(ticket::unpack_head(&tape[..9]), Ok(head));
+            let form_2 = tickets.iter().filter(|t| t.form == 2).count();
+            assert!(n < 20 || (1..n).contains(&form_2));
 
             // The tape is the head and a whole sealing of the packed tickets.
             let mut plain = vec![0; 13 * n];
@@ -270,6 +272,24 @@ mod tests {
             tare: 6,
             ..TICKET
         };
+        // Form 1 with a time of form 2 alone, form 2 with the second behind the day, no form.
+        let bad_forms = [
+            (1, 43_200),
+            (2, 86_400),
+            (0, 4_200),
+            (3, 4_200),
+            (15, 4_200),
+        ]
+        .map(|(form, tipped)| Ticket {
+            form,
+            tipped,
+            ..TICKET
+        });
+        let late = Ticket {
+            form: 2,
+            tipped: 86_399,
+            ..TICKET
+        };
 
         let mut writer = Writer::fresh();
         refused(&writer, 1, |w| w.add(&bad_ticket, &mut []));
@@ -285,15 +305,23 @@ mod tests {
         assert_eq!((writer.phase(), writer.tickets()), (WriterPhase::Open, 0));
         refused(&writer, 1, |w| w.start(&[], &bad_head, &mut []));
         refused(&writer, 4, |w| w.add(&bad_ticket, &mut []));
+        for bad in &bad_forms {
+            refused(&writer, 4, |w| w.add(bad, &mut []));
+            refused(&writer, 4, |w| w.add(bad, &mut [0; 13]));
+        }
         refused(&writer, 6, |w| w.add(&TICKET, &mut [0; 12]));
+        refused(&writer, 6, |w| w.add(&late, &mut [0; 12]));
         refused(&writer, 6, |w| w.add(&empty_trip(5), &mut [0; 12]));
         refused(&writer, 6, |w| w.finish(&mut [0; 15]));
 
-        for _ in 0..5_000 {
+        for _ in 0..2_500 {
             writer.add(&TICKET, &mut [0; 13]).unwrap();
+            writer.add(&late, &mut [0; 13]).unwrap();
         }
         refused(&writer, 4, |w| w.add(&bad_ticket, &mut []));
+        refused(&writer, 4, |w| w.add(&bad_forms[1], &mut []));
         refused(&writer, 5, |w| w.add(&TICKET, &mut []));
+        refused(&writer, 5, |w| w.add(&late, &mut [0; 13]));
         refused(&writer, 5, |w| w.add(&TICKET, &mut [0; 13]));
         refused(&writer, 5, |w| w.add(&empty_trip(5), &mut [0; 13]));
         refused(&writer, 6, |w| w.finish(&mut []));
@@ -383,7 +411,18 @@ mod tests {
         // Tare 250,001 beside gross 250,000.
         let mut tare_above = plain;
         tare_above[10..].copy_from_slice(&[0x0F, 0x42, 0x44]);
-        for bad in [bad_plain, tare_above] {
+        // Of form 1 tipped at 43,200, of form 2 at 86,400, and of forms 0, 3 and 15.
+        let mut late_1 = plain;
+        late_1[5..8].copy_from_slice(&[0x42, 0xA3, 0x00]);
+        let late_2 = *b"\x20\x14\x20\xd0\x1c\x21\x51\x80\x3d\x09\x01\xad\xb0";
+        let [form_0, form_3, form_15] = [0x00, 0x30, 0xF0].map(|first| {
+            let mut bytes = plain;
+            bytes[0] = first;
+            bytes
+        });
+        for bad in [
+            bad_plain, tare_above, late_1, late_2, form_0, form_3, form_15,
+        ] {
             for two in [[plain, bad], [bad, plain]] {
                 let tape = forged(&head, &two.concat());
                 assert_eq!(open_tape(&KEY, &tape, &mut out), Err(8));
@@ -393,5 +432,12 @@ mod tests {
         assert_eq!(out, vec![0xAA; 65_013]);
         assert_eq!(open_tape(&KEY, &tape, &mut out[..26]), Ok((2, 280_000)));
         assert_eq!(open_tape(&KEY, &forged(&head, &[]), &mut []), Ok((0, 0)));
+        // A second earlier both late ones are good.
+        late_1[6..8].copy_from_slice(&[0xA2, 0xFC]);
+        let mut last_second = late_2;
+        last_second[7] = 0x7F;
+        let tape = forged(&head, &[late_1, last_second].concat());
+        assert_eq!(open_tape(&KEY, &tape, &mut out), Ok((2, 280_000)));
+        assert_eq!(out[..26], [late_1, last_second].concat());
     }
 }

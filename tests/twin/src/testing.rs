@@ -48,16 +48,18 @@ impl XorShift {
         self.bytes(16).try_into().expect("16 bytes")
     }
 
-    /// A valid ticket. One in eight is a trip back empty, and of these one in eight has gross 0.
+    /// A valid ticket. Half are of form 2, and half of those are tipped too late for form 1. One in
+    /// eight is a trip back empty, and of these one in eight has gross 0.
     pub fn ticket(&mut self) -> Ticket {
-        let tipped = self.between(0, 43_199);
+        let form = self.between(1, 2) as u8;
+        let tipped = self.between(0, if form == 1 { 43_199 } else { 86_399 });
         let (empty, nothing) = (self.below(8) == 0, self.below(8) == 0);
         let gross = match empty && nothing {
             true => 0,
             false => self.between(1, (1 << 20) - 1),
         };
         Ticket {
-            form: 1,
+            form,
             truck: self.between(1, 1_023) as u16,
             shovel: self.between(1, 63) as u8,
             tip: self.between(1, 63) as u8,
@@ -67,5 +69,27 @@ impl XorShift {
             gross,
             tare: if empty { gross } else { self.between(0, gross) },
         }
+    }
+
+    /// A ticket with times at the edges of the ranges and of the widths, and of a form that may not
+    /// be one. One in sixteen has truck 0, one in sixteen more tare than gross. Most break the rule.
+    pub fn edge_ticket(&mut self) -> Ticket {
+        const FORMS: [u8; 9] = [1, 1, 1, 2, 2, 2, 0, 3, 15];
+        const TIMES: [u32; 14] = [
+            0, 1, 43_198, 43_199, 43_200, 43_201, 65_535, 65_536, 86_398, 86_399, 86_400, 86_401,
+            131_071, 131_072,
+        ];
+        let mut ticket = Ticket {
+            form: FORMS[self.below(FORMS.len())],
+            loaded: TIMES[self.below(TIMES.len())],
+            tipped: TIMES[self.below(TIMES.len())],
+            ..self.ticket()
+        };
+        match self.below(16) {
+            0 => ticket.truck = 0,
+            1 => ticket.tare = ticket.gross + 1,
+            _ => {}
+        }
+        ticket
     }
 }

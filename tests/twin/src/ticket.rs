@@ -1,4 +1,5 @@
-//! Tickets and heads, and their packing (document 01, "Ticket, head, tape").
+//! Tickets and heads, and their packing (document 01, "Ticket, head, tape"; tickets of form 2 from
+//! document 02, P6).
 //!
 //! Packed fields stand one behind the other and fill each byte from its most significant bit
 //! (document 01, "Bits of a byte").
@@ -10,10 +11,11 @@ pub const TICKET_BYTES: usize = 13;
 /// Bytes of a packed head.
 pub const HEAD_BYTES: usize = 9;
 
-/// One haul, with a load or without (document 02, P2). The two spare bits are no field: they are
-/// written as zeros and read as nothing else.
+/// One haul, with a load or without (document 02, P2). The spare bits are no field: they are written
+/// as zeros and read as nothing else.
 #[derive(Clone, Copy, PartialEq, Eq, Debug)]
 pub struct Ticket {
+    /// 1, or 2 for shifts of a whole day.
     pub form: u8,
     pub truck: u16,
     pub shovel: u8,
@@ -32,12 +34,14 @@ pub struct Ticket {
 impl Ticket {
     /// Whether every rule holds. The rules keep each field within its width.
     pub fn is_valid(&self) -> bool {
-        self.form == 1
-            && (1..=1_023).contains(&self.truck)
+        let Some(rule) = form_rule(self.form) else {
+            return false;
+        };
+        (1..=1_023).contains(&self.truck)
             && (1..=63).contains(&self.shovel)
             && (1..=63).contains(&self.tip)
             && self.grade <= 9
-            && self.tipped <= 43_199
+            && self.tipped <= rule.last_second
             && self.loaded <= self.tipped
             && self.gross < 1 << 20
             && self.tare <= self.gross
@@ -47,6 +51,33 @@ impl Ticket {
     /// not valid; its net is given as 0, too.
     pub fn net(&self) -> u32 {
         self.gross.saturating_sub(self.tare)
+    }
+}
+
+/// In what the forms of a ticket differ.
+struct FormRule {
+    /// The last second of the shift.
+    last_second: u32,
+    /// Bits of loaded, and of tipped.
+    time_bits: u32,
+    /// Bits behind the last field.
+    spare_bits: u32,
+}
+
+/// The rule of a form, if there is such a form.
+fn form_rule(form: u8) -> Option<FormRule> {
+    match form {
+        1 => Some(FormRule {
+            last_second: 43_199,
+            time_bits: 16,
+            spare_bits: 2,
+        }),
+        2 => Some(FormRule {
+            last_second: 86_399,
+            time_bits: 17,
+            spare_bits: 0,
+        }),
+        _ => None,
     }
 }
 
@@ -69,9 +100,10 @@ impl Head {
 
 /// Packs a ticket at the start of `out`; answers 13, or 4, or 6.
 pub fn pack(ticket: &Ticket, out: &mut [u8]) -> Result<usize, u8> {
-    if !ticket.is_valid() {
-        return Err(number::TICKET);
-    }
+    let rule = match form_rule(ticket.form) {
+        Some(rule) if ticket.is_valid() => rule,
+        _ => return Err(number::TICKET),
+    };
     let spare = 0;
     let packed = pack_fields(&[
         (u32::from(ticket.form), 4),
@@ -79,11 +111,11 @@ pub fn pack(ticket: &Ticket, out: &mut [u8]) -> Result<usize, u8> {
         (u32::from(ticket.shovel), 6),
         (u32::from(ticket.tip), 6),
         (u32::from(ticket.grade), 4),
-        (ticket.loaded, 16),
-        (ticket.tipped, 16),
+        (ticket.loaded, rule.time_bits),
+        (ticket.tipped, rule.time_bits),
         (ticket.gross, 20),
         (ticket.tare, 20),
-        (spare, 2),
+        (spare, rule.spare_bits),
     ]);
     write(&packed, out)
 }
@@ -94,18 +126,22 @@ pub fn unpack(bytes: &[u8]) -> Result<Ticket, u8> {
         return Err(number::LENGTH);
     }
     let mut fields = Fields::new(bytes);
+    let form = fields.take(4) as u8;
+    let Some(rule) = form_rule(form) else {
+        return Err(number::UNPACK);
+    };
     let ticket = Ticket {
-        form: fields.take(4) as u8,
+        form,
         truck: fields.take(10) as u16,
         shovel: fields.take(6) as u8,
         tip: fields.take(6) as u8,
         grade: fields.take(4) as u8,
-        loaded: fields.take(16),
-        tipped: fields.take(16),
+        loaded: fields.take(rule.time_bits),
+        tipped: fields.take(rule.time_bits),
         gross: fields.take(20),
         tare: fields.take(20),
     };
-    let spare = fields.take(2);
+    let spare = fields.take(rule.spare_bits);
     if !ticket.is_valid() || spare != 0 {
         return Err(number::UNPACK);
     }
@@ -163,7 +199,7 @@ fn pack_fields(fields: &[(u32, u32)]) -> Vec<u8> {
 /// Reads fields from packed bytes, one after the other.
 struct Fields<'a> {
     bytes: &'a [u8],
-    next_bit: usize,
+    next_bit: u32,
 }
 
 impl Fields<'_> {
@@ -172,10 +208,10 @@ impl Fields<'_> {
     }
 
     /// The value of the next `width` bits.
-    fn take(&mut self, width: usize) -> u32 {
+    fn take(&mut self, width: u32) -> u32 {
         let mut value = 0;
         for place in self.next_bit..self.next_bit + width {
-            let bit = self.bytes[place / 8] >> (7 - place % 8) & 1;
+            let bit = self.bytes[place as usize / 8] >> (7 - place % 8) & 1;
             value = value << 1 | u32::from(bit);
         }
         self.next_bit += width;
@@ -195,60 +231,119 @@ mod tests {
         sheet: 1,
     };
 
-    /// Packed bytes with another tare, also one that breaks the rule.
-    fn with_tare(mut packed: [u8; 13], tare: u32) -> [u8; 13] {
-        let mut last = u32::from_be_bytes(packed[9..].try_into().unwrap());
-        last = last & !(0xF_FFFF << 2) | tare << 2;
-        packed[9..].copy_from_slice(&last.to_be_bytes());
-        packed
+    /// The bytes of a ticket that may break the rule, times in 17 bits for form 2 and in 16 for any
+    /// other; nothing if a field has more than its width.
+    fn pack_anyway(t: &Ticket) -> Option<[u8; 13]> {
+        let (time, spare) = if t.form == 2 { (17, 0) } else { (16, 2) };
+        let mut all: u128 = 0;
+        for (value, width) in [
+            (t.form.into(), 4),
+            (t.truck.into(), 10),
+            (t.shovel.into(), 6),
+            (t.tip.into(), 6),
+            (t.grade.into(), 4),
+            (t.loaded, time),
+            (t.tipped, time),
+            (t.gross, 20),
+            (t.tare, 20),
+            (0, spare),
+        ] {
+            if value >= 1 << width {
+                return None;
+            }
+            all = all << width | u128::from(value);
+        }
+        Some(all.to_be_bytes()[3..].try_into().unwrap())
     }
 
     #[test]
     fn tickets_there_and_back() {
         let mut random = XorShift::new(41);
-        let mut empty_trips = 0;
+        let (mut empty_trips, mut form_2, mut late) = (0, 0, 0);
         for _ in 0..2_000 {
             let ticket = random.ticket();
             assert!(ticket.is_valid());
             assert_eq!(ticket.tare + ticket.net(), ticket.gross);
             empty_trips += u32::from(ticket.tare == ticket.gross);
+            form_2 += u32::from(ticket.form == 2);
+            late += u32::from(ticket.tipped > 43_199);
             let mut out = [0xAA; 15];
             assert_eq!(pack(&ticket, &mut out), Ok(13));
             assert_eq!(out[13..], [0xAA; 2]);
             let packed: [u8; 13] = out[..13].try_into().unwrap();
             assert_eq!(unpack(&packed), Ok(ticket));
+            assert_eq!(pack_anyway(&ticket), Some(packed));
 
             // The same with as much tare as gross, and with a kilogram more.
             let [equal, above] =
                 [ticket.gross, ticket.gross + 1].map(|tare| Ticket { tare, ..ticket });
-            assert_eq!(unpack(&with_tare(packed, equal.tare)), Ok(equal));
+            assert_eq!(unpack(&pack_anyway(&equal).unwrap()), Ok(equal));
             assert_eq!(pack(&above, &mut out), Err(4));
-            if above.tare < 1 << 20 {
-                assert_eq!(unpack(&with_tare(packed, above.tare)), Err(8));
+            if let Some(bytes) = pack_anyway(&above) {
+                assert_eq!(unpack(&bytes), Err(8));
             }
         }
         assert!(empty_trips > 150);
+        assert!((800..1_200).contains(&form_2));
+        assert!((400..600).contains(&late));
+    }
+
+    /// Times at the edges, in forms that are none too: packed where the rule holds, else 4; and 8
+    /// where the bytes can be made all the same.
+    #[test]
+    fn tickets_at_the_edges() {
+        let mut random = XorShift::new(44);
+        let (mut good, mut bad_bytes) = ([0; 3], [0; 16]);
+        for _ in 0..20_000 {
+            let ticket = random.edge_ticket();
+            let in_time = match ticket.form {
+                1 => ticket.loaded < 43_200 && ticket.tipped < 43_200,
+                2 => ticket.loaded < 86_400 && ticket.tipped < 86_400,
+                _ => false,
+            };
+            let in_turn = ticket.loaded <= ticket.tipped;
+            let valid = in_time && in_turn && ticket.truck > 0 && ticket.tare <= ticket.gross;
+            assert_eq!(ticket.is_valid(), valid);
+            let mut out = [0xAA; 13];
+            if valid {
+                assert_eq!(pack(&ticket, &mut out), Ok(13));
+                assert_eq!(pack_anyway(&ticket), Some(out));
+                assert_eq!(unpack(&out), Ok(ticket));
+                good[usize::from(ticket.form)] += 1;
+            } else {
+                assert_eq!(pack(&ticket, &mut out), Err(4));
+                assert_eq!(out, [0xAA; 13]);
+                if let Some(bytes) = pack_anyway(&ticket) {
+                    assert_eq!(unpack(&bytes), Err(8));
+                    bad_bytes[usize::from(ticket.form)] += 1;
+                }
+            }
+        }
+        assert!(good[1] > 200 && good[2] > 1_000);
+        assert!([0, 1, 2, 3, 15].iter().all(|&form| bad_bytes[form] > 200));
     }
 
     #[test]
     fn bytes_that_unpack_pack_to_themselves() {
         let mut random = XorShift::new(42);
-        let mut packed = [0; 13];
-        pack(&TICKET, &mut packed).unwrap();
-        let mut good = 0;
-        for _ in 0..20_000 {
-            let mut bytes = packed;
-            for _ in 0..random.below(4) {
-                bytes[random.below(13)] ^= 1 << random.below(8);
+        for form in [1, 2] {
+            let mut packed = [0; 13];
+            pack(&Ticket { form, ..TICKET }, &mut packed).unwrap();
+            let mut good = 0;
+            for _ in 0..20_000 {
+                let mut bytes = packed;
+                for _ in 0..random.below(4) {
+                    bytes[random.below(13)] ^= 1 << random.below(8);
+                }
+                if let Ok(ticket) = unpack(&bytes) {
+                    let mut again = [0; 13];
+                    assert_eq!(pack(&ticket, &mut again), Ok(13));
+                    assert_eq!(again, bytes);
+                    good += 1;
+                }
             }
-            if let Ok(ticket) = unpack(&bytes) {
-                let mut again = [0; 13];
-                assert_eq!(pack(&ticket, &mut again), Ok(13));
-                assert_eq!(again, bytes);
-                good += 1;
-            }
+            assert!(good > 5_000 && good < 20_000);
         }
-        assert!(good > 5_000 && good < 20_000);
     }
 
     /// What must hold of a ticket that is at the edge of a rule, just inside or just outside.
@@ -268,9 +363,37 @@ mod tests {
     #[test]
     fn edges_of_the_ticket_rules() {
         let t = TICKET;
-        edge(t, Ticket { form: 0, ..t });
-        edge(t, Ticket { form: 2, ..t });
-        edge(t, Ticket { form: 17, ..t });
+        edges_in_form(t);
+        edges_in_form(Ticket { form: 2, ..t });
+        edge(Ticket { form: 1, ..t }, Ticket { form: 0, ..t });
+        edge(Ticket { form: 2, ..t }, Ticket { form: 3, ..t });
+        // The last second of a shift, and where a seventeenth or eighteenth bit is needed.
+        let times = |form, loaded, tipped| Ticket {
+            form,
+            loaded,
+            tipped,
+            ..t
+        };
+        edge(times(1, 0, 43_199), times(1, 0, 43_200));
+        edge(times(1, 43_199, 43_199), times(1, 43_200, 43_200));
+        edge(times(1, 43_199, 43_199), times(1, 43_200, 43_199));
+        edge(times(2, 0, 43_200), times(1, 0, 65_535));
+        edge(times(2, 0, 65_535), times(1, 0, 65_536));
+        edge(times(2, 0, 65_536), times(1, 0, 65_536 + 4_200));
+        edge(times(2, 65_535, 65_536), times(2, 65_536, 65_535));
+        edge(times(2, 65_536, 65_536), times(2, 65_537, 65_536));
+        edge(times(2, 0, 86_399), times(2, 0, 86_400));
+        edge(times(2, 86_399, 86_399), times(2, 86_400, 86_400));
+        edge(times(2, 86_399, 86_399), times(2, 86_400, 86_399));
+        edge(times(2, 0, 0), times(2, 0, 131_071));
+        edge(times(2, 0, 4_200), times(2, 0, 131_072 + 4_200));
+    }
+
+    /// The edges that are the same in either form.
+    fn edges_in_form(t: Ticket) {
+        for form in [0, 3, 4, 15, 16, 17, 18, 255] {
+            edge(t, Ticket { form, ..t });
+        }
         edge(Ticket { truck: 1, ..t }, Ticket { truck: 0, ..t });
         edge(Ticket { truck: 1_023, ..t }, Ticket { truck: 1_024, ..t });
         edge(Ticket { shovel: 1, ..t }, Ticket { shovel: 0, ..t });
@@ -281,25 +404,6 @@ mod tests {
         edge(Ticket { grade: 9, ..t }, Ticket { grade: 16, ..t });
         edge(Ticket { loaded: 0, ..t }, Ticket { loaded: 4_201, ..t });
         edge(Ticket { tipped: 3_600, ..t }, Ticket { tipped: 3_599, ..t });
-        edge(
-            Ticket {
-                loaded: 43_199,
-                tipped: 43_199,
-                ..t
-            },
-            Ticket {
-                loaded: 43_200,
-                tipped: 43_200,
-                ..t
-            },
-        );
-        edge(
-            t,
-            Ticket {
-                tipped: 65_536 + 4_200,
-                ..t
-            },
-        );
         edge(
             Ticket {
                 gross: 1_048_575,
@@ -346,8 +450,12 @@ mod tests {
             assert_eq!(out[..7], [0x10, 0x14, 0x20, 0xD0, 0x38, 0x40, 0x41]);
             assert_eq!(out[7..], last);
             assert_eq!(unpack(&out), Ok(ticket));
-            if gross < 1_048_575 {
-                assert_eq!(unpack(&with_tare(out, gross + 1)), Err(8));
+            let above = Ticket {
+                tare: gross + 1,
+                ..ticket
+            };
+            if let Some(bytes) = pack_anyway(&above) {
+                assert_eq!(unpack(&bytes), Err(8));
             }
         }
     }
@@ -370,10 +478,47 @@ mod tests {
         }
         assert_eq!(unpack(&[0; 13]), Err(8));
         assert_eq!(unpack(&[0xFF; 13]), Err(8));
-        // Form 3 in place of form 1.
-        let mut bytes = packed;
-        bytes[0] |= 0x20;
-        assert_eq!(unpack(&bytes), Err(8));
+        // Any other form in place of form 1. In form 2 the bits that follow are other values.
+        for form in 0..16 {
+            let mut bytes = packed;
+            bytes[0] = form << 4;
+            let expected = match form {
+                1 => Ok(TICKET),
+                2 => Ok(Ticket {
+                    form: 2,
+                    loaded: 7_200,
+                    tipped: 16_800,
+                    gross: 1_000_000,
+                    tare: 440_000,
+                    ..TICKET
+                }),
+                _ => Err(8),
+            };
+            assert_eq!(unpack(&bytes), expected);
+        }
+        // The same with form 2's bytes: in form 1 the ticket would be loaded after it is tipped.
+        let form_2 = Ticket { form: 2, ..TICKET };
+        pack(&form_2, &mut packed).unwrap();
+        for form in 0..16 {
+            let mut bytes = packed;
+            bytes[0] = form << 4;
+            let expected = if form == 2 { Ok(form_2) } else { Err(8) };
+            assert_eq!(unpack(&bytes), expected);
+        }
+    }
+
+    /// In form 2 the last two bits are tare's, where form 1 has spare ones.
+    #[test]
+    fn form_2_has_no_spare_bits() {
+        let ticket = Ticket { form: 2, ..TICKET };
+        let mut packed = [0; 13];
+        pack(&ticket, &mut packed).unwrap();
+        for more in 0..4 {
+            let mut bytes = packed;
+            bytes[12] |= more;
+            let tare = TICKET.tare + u32::from(more);
+            assert_eq!(unpack(&bytes), Ok(Ticket { tare, ..ticket }));
+        }
     }
 
     #[test]

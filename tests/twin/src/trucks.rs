@@ -64,9 +64,9 @@ mod tests {
     use crate::testing::{XorShift, TICKET};
     use crate::ticket::Ticket;
 
-    /// Tickets that do not unpack: form 15, truck 0, grade 15, a spare bit, 13 zero bytes, and a tare
-    /// one above the gross.
-    const BAD: [[u8; 13]; 6] = [
+    /// Tickets that do not unpack: form 15, truck 0, grade 15, a spare bit, 13 zero bytes, a tare one
+    /// above the gross, form 3, and form 2 with truck 0 and with tipped 86,400.
+    const BAD: [[u8; 13]; 9] = [
         [
             0xF0, 0x14, 0x20, 0xD0, 0x38, 0x40, 0x41, 0xA0, 0xF4, 0x24, 0x06, 0xB6, 0xC0,
         ],
@@ -82,6 +82,15 @@ mod tests {
         [0; 13],
         [
             0x10, 0x14, 0x20, 0xD0, 0x38, 0x40, 0x41, 0xA0, 0xF4, 0x24, 0x0F, 0x42, 0x44,
+        ],
+        [
+            0x30, 0x14, 0x20, 0xD0, 0x38, 0x40, 0x41, 0xA0, 0xF4, 0x24, 0x06, 0xB6, 0xC0,
+        ],
+        [
+            0x20, 0x00, 0x20, 0xD0, 0x1C, 0x20, 0x10, 0x68, 0x3D, 0x09, 0x01, 0xAD, 0xB0,
+        ],
+        [
+            0x20, 0x14, 0x20, 0xD0, 0x1C, 0x21, 0x51, 0x80, 0x3D, 0x09, 0x01, 0xAD, 0xB0,
         ],
     ];
 
@@ -151,6 +160,25 @@ mod tests {
         };
         let plain = [packed(&TICKET), packed(&other)].concat();
         assert_eq!(truck_list(&plain), Ok(vec![5]));
+    }
+
+    /// A truck is counted once, whichever forms its tickets are of.
+    #[test]
+    fn both_forms() {
+        let late = |truck| Ticket {
+            form: 2,
+            truck,
+            tipped: 86_399,
+            ..TICKET
+        };
+        let plain = [TICKET, late(5), late(1_023), late(6), TICKET].map(|t| packed(&t));
+        assert_eq!(truck_list(&plain.concat()), Ok(vec![5, 6, 1_023]));
+        assert_eq!(trucks(&plain.concat()), Ok(3));
+        assert_eq!(trucks_of_two(&plain[0], &plain[1]), counts(1, 1, 0));
+        assert_eq!(
+            trucks_of_two(&plain[..2].concat(), &plain[2..].concat()),
+            counts(1, 3, 2)
+        );
     }
 
     /// A truck is counted even where all its tickets are trips back empty.

@@ -1,7 +1,8 @@
 //! Lists of calls on sessions and writers.
 
-use super::{broken_heads, broken_tickets, head_fields, hex, line, star, ticket_fields, File};
-use super::{EMPTY_TRIPS, GREATEST, HEAD, SMALLEST, TARE_ABOVE_GROSS, TICKET};
+use super::{both_forms, broken_forms, broken_heads, broken_tickets};
+use super::{head_fields, hex, line, star, ticket_fields, File};
+use super::{EMPTY_TRIPS, FORM_2, GREATEST, HEAD, LATE, SMALLEST, TARE_ABOVE_GROSS, TICKET};
 use crate::both::{self, Ran};
 use crate::calls::{SessionCall, Sessions, WriterCall, Writers};
 use crate::random::{turned, Random};
@@ -425,7 +426,7 @@ fn writers(lines: &mut Lines) {
     lines.writer("No ticket.", &[start(), finish()]);
     lines.writer("Document 01's ticket.", &[start(), add(TICKET), finish()]);
     let mut calls = vec![start(), add(SMALLEST), add(GREATEST)];
-    calls.extend((0..6).map(|_| add(random.ticket_with_load())));
+    calls.extend((0..6).map(|_| add(random.ticket_of_form(1))));
     calls.push(finish());
     lines.writer("Eight tickets.", &calls);
     let [first, second, third] = EMPTY_TRIPS;
@@ -536,4 +537,19 @@ fn writers(lines: &mut Lines) {
             add(TICKET),
         ],
     );
+
+    lines.writer(
+        "Document 01's ticket in form 2.",
+        &[start(), add(FORM_2), finish()],
+    );
+    let mut calls = vec![start()];
+    calls.extend(both_forms().into_iter().map(add));
+    calls.push(finish());
+    lines.writer("Both forms.", &calls);
+    let mut calls = vec![start(), add(TICKET)];
+    calls.extend(broken_forms().into_iter().map(add));
+    calls.push(add_into(broken_forms()[1], 0));
+    calls.push(add_into(LATE, 12));
+    calls.extend([add(LATE), finish(), add(FORM_2)]);
+    lines.writer("Tickets that break the rule in form 2.", &calls);
 }

@@ -1,11 +1,12 @@
 //! Tapes opened into rooms of several lengths.
 
 use super::{bytes_of, hex, line, pack_anyway, pack_head_anyway, star, tapes, File};
-use super::{EMPTY_TRIPS, GREATEST, HEAD, SMALLEST, TARE_ABOVE_GROSS, TICKET};
+use super::{EMPTY_TRIPS, FORM_2, GREATEST, GREATEST_FORM_2, HEAD, LATE};
+use super::{SMALLEST, TARE_ABOVE_GROSS, TICKET};
 use crate::both::{self, Ran};
 use crate::calls::write_tape;
 use crate::random::turned;
-use haul_tape::Head;
+use haul_tape::{Head, Ticket};
 
 /// An answer; `plain` is the field of the plain bytes.
 fn answered(ran: &Ran<(u64, u64)>, plain: impl FnOnce(&[u8]) -> String) -> String {
@@ -113,6 +114,49 @@ pub(super) fn openings(tapes: &[File]) -> File {
             [bad, &ticket, &ticket],
             [&ticket, bad, &ticket],
             [&ticket, &ticket, bad],
+        ] {
+            let tape = tapes::sealed(&key, head, &tickets.concat());
+            lines.opened(k, &hex(&tape), &[39]);
+        }
+    }
+
+    lines.title("Form 2, alone and with form 1.");
+    lines.opened(k, &hex(&write_tape(&key, HEAD, &[FORM_2])), &[13, 12]);
+    for tickets in [
+        &[FORM_2, TICKET][..],
+        &[TICKET, LATE],
+        &[GREATEST_FORM_2, GREATEST, SMALLEST, LATE],
+    ] {
+        let room = 13 * tickets.len();
+        lines.opened(k, &hex(&write_tape(&key, HEAD, tickets)), &[room, room - 1]);
+    }
+    lines.title(
+        "Document 01's bytes with form 2 before them, which is another ticket; older kits have",
+    );
+    lines.0.push("# this tape as refused_8_form_2.".to_string());
+    let mut as_form_2 = ticket;
+    as_form_2[0] = as_form_2[0] & 0x0F | 0x20;
+    lines.opened(k, &hex(&tapes::sealed(&key, head, &as_form_2)), &[13, 12]);
+    let form_2 = FORM_2.pack().expect("a ticket of form 2 packs");
+    for (title, bad) in [
+        (
+            "8 wherever a ticket of form 3 stands.",
+            Ticket { form: 3, ..TICKET },
+        ),
+        (
+            "The same, with form 2 and tipped at 86,400.",
+            Ticket {
+                tipped: 86_400,
+                ..FORM_2
+            },
+        ),
+    ] {
+        lines.title(title);
+        let bad = pack_anyway(bad).expect("the ticket fits its widths");
+        for tickets in [
+            [bad, form_2, ticket],
+            [ticket, bad, form_2],
+            [form_2, ticket, bad],
         ] {
             let tape = tapes::sealed(&key, head, &tickets.concat());
             lines.opened(k, &hex(&tape), &[39]);

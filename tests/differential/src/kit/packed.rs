@@ -1,11 +1,19 @@
 //! Tickets and heads, packed; and those that do not pack or unpack.
 
-use super::{broken_heads, broken_tickets, head_fields, hex, line, ticket_fields};
+use super::{both_forms, broken_forms, broken_heads, broken_tickets};
+use super::{head_fields, hex, line, ticket_fields};
 use super::{pack_anyway, pack_head_anyway, File};
-use super::{EMPTY_TRIPS, GREATEST, HEAD, SMALLEST, TICKET};
+use super::{EMPTY_TRIPS, FORM_2, GREATEST, GREATEST_FORM_2, HEAD, SMALLEST, TICKET};
 use crate::both;
 use crate::random::{turned, Random};
 use haul_tape::{Head, Ticket};
+
+/// The ticket that document 01's bytes say with form 2 before them.
+fn as_form_2() -> Ticket {
+    let mut packed = TICKET.pack().expect("document 01's ticket packs");
+    packed[0] = packed[0] & 0x0F | 0x20;
+    both::unpack_ticket(&packed).expect("a ticket of form 2")
+}
 
 pub(super) fn packed() -> File {
     let mut random = Random::new(4);
@@ -26,7 +34,19 @@ pub(super) fn packed() -> File {
         tare: 5,
         ..TICKET
     });
-    tickets.extend((0..20).map(|_| random.ticket_with_load()));
+    tickets.extend((0..20).map(|_| random.ticket_of_form(1)));
+    // Those that came with form 2.
+    let mut random_2 = Random::new(10);
+    let form_2 = both_forms().into_iter().filter(|t| t.form == 2);
+    tickets.extend(form_2);
+    tickets.extend(EMPTY_TRIPS.map(|t| Ticket { form: 2, ..t }));
+    tickets.push(Ticket {
+        loaded: 86_399,
+        tipped: 86_399,
+        ..FORM_2
+    });
+    tickets.push(as_form_2());
+    tickets.extend((0..20).map(|_| random_2.ticket_of_form(2)));
     for ticket in tickets {
         let packed = both::pack_ticket(ticket, 13).out;
         assert_eq!(both::unpack_ticket(&packed), Ok(ticket));
@@ -51,7 +71,7 @@ pub(super) fn packed() -> File {
         lines.push(line(&[&"head", &head_fields(head), &hex(&packed)]));
     }
 
-    for ticket in broken_tickets() {
+    for ticket in broken_tickets().into_iter().chain(broken_forms()) {
         assert_eq!(both::pack_ticket(ticket, 13).answer, Err(4));
         lines.push(line(&[&"refused_ticket 4", &ticket_fields(ticket)]));
     }
@@ -80,6 +100,17 @@ pub(super) fn packed() -> File {
     }
     for packed in broken_tickets().into_iter().filter_map(pack_anyway) {
         refused_ticket(&packed);
+    }
+    for packed in broken_forms().into_iter().filter_map(pack_anyway) {
+        refused_ticket(&packed);
+    }
+    // The bytes of form 2 with another form before them.
+    for ticket in [FORM_2, GREATEST_FORM_2] {
+        let mut packed = ticket.pack().expect("a ticket of form 2 packs");
+        for form in [0, 1, 3, 6, 10, 15] {
+            packed[0] = packed[0] & 0x0F | form << 4;
+            refused_ticket(&packed);
+        }
     }
 
     let mut refused_head = |packed: &[u8]| {

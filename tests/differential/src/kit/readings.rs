@@ -1,7 +1,8 @@
 //! Readings: the tickets of plain bytes in turn.
 
 use super::{bytes_of, hex, line, pack_anyway, star, ticket_fields, File};
-use super::{EMPTY_TRIPS, GREATEST, SMALLEST, TARE_ABOVE_GROSS, TICKET};
+use super::{EMPTY_TRIPS, FORM_2, GREATEST, GREATEST_FORM_2, LATE};
+use super::{SMALLEST, TARE_ABOVE_GROSS, TICKET};
 use crate::both;
 use crate::random::turned;
 use haul_tape::{exports, Ticket};
@@ -153,5 +154,36 @@ pub(super) fn readings() -> File {
         &format!("5001x{}", hex(&good)),
         3,
     );
+
+    let second = packed(FORM_2);
+    lines.reader("Document 01's ticket in form 2.", &hex(&second), 2);
+    let plain = [FORM_2, TICKET, LATE, SMALLEST, GREATEST_FORM_2, GREATEST];
+    lines.reader("Both forms.", &hex(&plain.map(packed).concat()), 7);
+    lines.reader(
+        "As many of both as there may be.",
+        &format!("2500x{}+2500x{}", hex(&second), hex(&good)),
+        5_001,
+    );
+    for (what, broken) in [
+        ("has form 3", Ticket { form: 3, ..t }),
+        (
+            "has form 2 and is tipped at 86,400",
+            Ticket {
+                tipped: 86_400,
+                ..FORM_2
+            },
+        ),
+        (
+            "has form 2 and is loaded after it is tipped",
+            Ticket {
+                loaded: 65_536 + 4_200,
+                ..FORM_2
+            },
+        ),
+    ] {
+        let broken = pack_anyway(broken).expect("the ticket fits its widths");
+        let plain = [&good[..], &second, &broken].concat();
+        lines.reader(&format!("The third {what}."), &hex(&plain), 4);
+    }
     File::text("readings.txt", lines.0)
 }

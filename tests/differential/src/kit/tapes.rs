@@ -1,7 +1,7 @@
 //! Tapes with their listings.
 
+use super::{both_forms, EMPTY_TRIPS, FORM_2, GREATEST, HEAD, SMALLEST, TICKET};
 use super::{head_fields, hex, pack_anyway, pack_head_anyway, ticket_fields, File};
-use super::{EMPTY_TRIPS, GREATEST, HEAD, SMALLEST, TICKET};
 use crate::both;
 use crate::calls::write_tape;
 use crate::random::{turned, Random};
@@ -75,7 +75,7 @@ pub(super) fn key_and_tape(name: &str, files: &[File]) -> (String, Vec<u8>) {
 pub(super) fn tapes() -> Vec<File> {
     let mut random = Random::new(7);
     let mut tickets =
-        |n: usize| -> Vec<Ticket> { (0..n).map(|_| random.ticket_with_load()).collect() };
+        |n: usize| -> Vec<Ticket> { (0..n).map(|_| random.ticket_of_form(1)).collect() };
     let three = [SMALLEST, TICKET, GREATEST];
     let forty = tickets(40);
     // heavy, so that their total does not fit in 32 bits
@@ -104,6 +104,13 @@ pub(super) fn tapes() -> Vec<File> {
     let third_sheet = Head { sheet: 3, ..HEAD };
     let empty_trips = [&[TICKET], &EMPTY_TRIPS[..]].concat();
     files.extend(good("empty_trips", &key, third_sheet, &empty_trips));
+    let sheet = |sheet: u32| Head { sheet, ..HEAD };
+    files.extend(good("1_ticket_form_2", &key, sheet(4), &[FORM_2]));
+    files.extend(good("both_forms", &key, sheet(5), &both_forms()));
+    let mut random = Random::new(9);
+    let sixty: Vec<Ticket> = (0..60).map(|_| random.ticket()).collect();
+    let (any_key, any_head) = (random.block(), random.head());
+    files.extend(good("60_tickets_both_forms", &any_key, any_head, &sixty));
 
     let tape = write_tape(&key, HEAD, &[TICKET]);
     let head = HEAD.pack().expect("document 01's head packs");
@@ -163,7 +170,9 @@ pub(super) fn tapes() -> Vec<File> {
     files.extend(refused("second_ticket", &key, sealed(&key, head, &second)));
     let t = TICKET;
     for (name, wrong) in [
-        ("form_2", Ticket { form: 2, ..t }),
+        ("form_0", Ticket { form: 0, ..t }),
+        ("form_3", Ticket { form: 3, ..t }),
+        ("form_15", Ticket { form: 15, ..t }),
         ("truck_0", Ticket { truck: 0, ..t }),
         ("grade_10", Ticket { grade: 10, ..t }),
         ("loaded_after_tipped", Ticket { loaded: 4_201, ..t }),
@@ -175,6 +184,27 @@ pub(super) fn tapes() -> Vec<File> {
             },
         ),
         ("tare_above_gross", Ticket { tare: 250_001, ..t }),
+        (
+            "form_2_tipped_86400",
+            Ticket {
+                tipped: 86_400,
+                ..FORM_2
+            },
+        ),
+        (
+            "form_2_loaded_after_tipped",
+            Ticket {
+                loaded: 65_536 + 4_200,
+                ..FORM_2
+            },
+        ),
+        (
+            "form_2_tare_above_gross",
+            Ticket {
+                tare: 250_001,
+                ..FORM_2
+            },
+        ),
     ] {
         let wrong = pack_anyway(wrong).expect("the ticket fits its widths");
         files.extend(refused(name, &key, sealed(&key, head, &wrong)));

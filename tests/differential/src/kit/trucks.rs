@@ -1,7 +1,7 @@
 //! The trucks on one opened tape and on two.
 
 use super::{bytes_of, hex, line, pack_anyway, star, tapes, File};
-use super::{EMPTY_TRIPS, GREATEST, SMALLEST, TARE_ABOVE_GROSS, TICKET};
+use super::{EMPTY_TRIPS, FORM_2, GREATEST, SMALLEST, TARE_ABOVE_GROSS, TICKET};
 use crate::both;
 use crate::random::turned;
 use haul_tape::Ticket;
@@ -220,5 +220,39 @@ pub(super) fn trucks(tapes: &[File]) -> File {
     lines.both_orders(long, bad);
     lines.both_orders(long, late);
     lines.both_orders(bad, &format!("5001x{bad}"));
+
+    lines.title("Form 2, alone and with form 1: a truck counts once, in whatever form.");
+    let form_2 = |truck: u16| {
+        let ticket = Ticket { truck, ..FORM_2 };
+        hex(&both::pack_ticket(ticket, 13).out)
+    };
+    let second = &form_2(5);
+    lines.one(second);
+    for truck in [1, 63, 64, 1_023] {
+        lines.one(&form_2(truck));
+    }
+    lines.one(&format!("{good}+{second}"));
+    lines.one(&format!("{second}+{other}+{}", form_2(1_023)));
+    lines.one(&format!("2500x{second}+2500x{good}"));
+    for name in ["1_ticket_form_2", "both_forms", "60_tickets_both_forms"] {
+        lines.one(&format!("{name}.txt"));
+    }
+    lines.both_orders(good, second);
+    lines.both_orders(other, second);
+    lines.both_orders("both_forms.txt", "1_ticket_form_2.txt");
+    lines.both_orders("60_tickets_both_forms.txt", "5000_tickets.txt");
+    lines.title("A ticket of form 3, one of form 15, one of form 2 tipped at 86,400.");
+    for bad in [
+        Ticket { form: 3, ..t },
+        Ticket { form: 15, ..t },
+        Ticket {
+            tipped: 86_400,
+            ..FORM_2
+        },
+    ] {
+        let bad = hex(&pack_anyway(bad).expect("the ticket fits its widths"));
+        lines.one(&format!("{good}+{second}+{bad}"));
+        lines.both_orders(second, &bad);
+    }
     File::text("trucks.txt", lines.lines)
 }

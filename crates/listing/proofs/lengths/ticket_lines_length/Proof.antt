@@ -1,15 +1,14 @@
 -- `ticket_lines_length`: the lines of i tickets are counted before each turn of the loop.
 use mathlib.Core.Path.{_≡_, sym, ap, _∙_}
-use Prim.Native.Nat.{_*_, _-_, _≤_}
+use Prim.Native.Nat.{ℕ, _+_, _*_, _-_, _≤_}
 use native.Mathlib.Omega.{arith}
-use lib.ListN.{length, take}
+use lib.ListN.{length, take, drop}
 use borrow.Author.Needs.{needs}
 use Rattle.calls.specs.Calls.{done}
 use Rattle.tape_model.specs.Tape.{plainTickets, ticketsIn}
-use Rattle.tape_model.specs.Reader.{ReadOutcome, ticket, readNext, nextReply}
+use Rattle.tape_model.specs.Ticket.{unpackTicket, ticketReply}
 use Rattle.tape_model.specs.Listing.{ticketLines}
-use Rattle.reader.specs.Contracts.{readerAt, readOutcome}
-use Rattle.listing.proofs.TicketLines.{few, not-else, all-lines, length-more}
+use Rattle.listing.proofs.TicketLines.{few, not-refused, all-lines, length-more}
 use Rattle.listing.proofs.lengths.ticket_lines_length.Statement.{statement}
 use Rattle.listing.proofs.lengths.ticket_lines_length.Tie as tie
 
@@ -24,31 +23,54 @@ abbrev start : tie.At-loop Inv-loop μ-loop → tie.Start Inv-loop μ-loop
 start l = l .before .before
 
 abbrev turn : tie.After-known-told Inv-loop μ-loop → tie.At-loop Inv-loop μ-loop
-turn k = k .before .before .before .before .before
+turn k = k .before .before .before .before .before .before
 
--- a reading that hands out no ticket is out of reach
-out-of-reach : tie.At-match-keys2 Inv-loop μ-loop → ⊥
-unfolding readOutcome
+-- the length of a ticket's slice
+abbrev width : ℕ → ℕ
+width i = 13 * i + 13 - 13 * i
+
+-- bytes that do not unpack are out of reach
+out-of-reach : tie.After-enum-told Inv-loop μ-loop → ⊥
+unfolding ticketReply
 out-of-reach c =
-    let l = c .before .before .before in
+    let l = c .before .before .before .before .before in
     let s = start l in
-    not-else (s .args .plain .now) (s .pre) (l .loop .i) (omega arith) _ (ap (λ (o : ReadOutcome). o .answer) (c .before .read-at .ensures)) (c .match .keys2)
+    not-refused (s .args .plain .now) (s .pre) (l .loop .i) (omega arith) (width (l .loop .i)) (omega arith) _
+    (ap ticketReply (sym (c .enum-told .given .1)) ∙ c .before .before .unpack-ticket .ensures)
 
--- the ticket that was handed out
+-- the ticket that was unpacked
 was-read : (k : tie.After-known-told Inv-loop μ-loop) → let l = turn k in
-    done (ticket (k .before .answer .given .0 .0)) ≡ readNext (readerAt (start l .args .plain .now) (l .loop .i)) .answer
-unfolding readOutcome nextReply
-was-read k = ap nextReply (sym (k .before .answer .given .1)) ∙ ap (λ (o : ReadOutcome). o .answer) (k .before .before .before .read-at .ensures)
+    done (k .before .t .given .0 .0) ≡ unpackTicket (take (width (l .loop .i)) (drop (13 * l .loop .i) (start l .args .plain .now)))
+unfolding ticketReply
+was-read k = ap ticketReply (sym (k .before .t .given .1)) ∙ k .before .before .before .unpack-ticket .ensures
 
 loop-holds : tie.Need-loop-holds Inv-loop μ-loop
 unfolding ticketLines
 loop-holds c = search needs
 
-read-at-requires : tie.Need-read-at-requires Inv-loop μ-loop
-read-at-requires c κs = tt
+mul-at : tie.Need-mul-at Inv-loop μ-loop
+mul-at c = search needs
 
-enum-known-answer : tie.Need-enum-known-answer Inv-loop μ-loop
-enum-known-answer c = search needs
+add-end : tie.Need-add-end Inv-loop μ-loop
+add-end c = search needs
+
+sub-unpack-ticket : tie.Need-sub-unpack-ticket Inv-loop μ-loop
+sub-unpack-ticket c = search needs
+
+part-unpack-ticket-start : tie.Need-part-unpack-ticket-start Inv-loop μ-loop
+part-unpack-ticket-start c = search needs
+
+part-unpack-ticket-end : tie.Need-part-unpack-ticket-end Inv-loop μ-loop
+part-unpack-ticket-end c = search needs
+
+unpack-ticket-requires : tie.Need-unpack-ticket-requires Inv-loop μ-loop
+unpack-ticket-requires c κs = search needs
+
+enum-known-t : tie.Need-enum-known-t Inv-loop μ-loop
+enum-known-t c = search needs
+
+enum-told : tie.Need-enum-told Inv-loop μ-loop
+enum-told c = search needs
 
 returns : tie.Need-returns Inv-loop μ-loop
 returns c = absurd (out-of-reach c)
@@ -76,7 +98,7 @@ loop-again c =
     let k = c .before in
     let l = turn k in
     let s = start l in
-    let more = length-more (s .args .plain .now) (s .pre) (l .loop .i) (omega arith) _ (was-read k) in
+    let more = length-more (s .args .plain .now) (s .pre) (l .loop .i) (omega arith) (width (l .loop .i)) (omega arith) _ (was-read k) in
     omega (arith, more)
 
 returns-2 : tie.Need-returns-2 Inv-loop μ-loop
@@ -92,8 +114,14 @@ ticket-lines-length-spec =
     Inv-loop
     μ-loop
     loop-holds
-    read-at-requires
-    enum-known-answer
+    mul-at
+    add-end
+    sub-unpack-ticket
+    part-unpack-ticket-start
+    part-unpack-ticket-end
+    unpack-ticket-requires
+    enum-known-t
+    enum-told
     returns
     add-ticket-line-length
     ticket-line-length-requires

@@ -1,15 +1,14 @@
 -- `put_ticket_lines`: the lines of i tickets are written before each turn of the loop.
 use mathlib.Core.Path.{_≡_, sym, ap, _∙_}
 use mathlib.Core.List.{List}
-use Prim.Native.Nat.{ℕ, _-_, _≤_}
+use Prim.Native.Nat.{ℕ, _+_, _*_, _-_, _≤_}
 use native.Mathlib.Omega.{arith}
-use lib.ListN.{take}
+use lib.ListN.{take, drop}
 use borrow.Author.Needs.{needs}
 use Rattle.calls.specs.Calls.{done}
-use Rattle.tape_model.specs.Reader.{ReadOutcome, ticket, readNext, nextReply}
-use Rattle.reader.specs.Contracts.{readerAt, readOutcome}
+use Rattle.tape_model.specs.Ticket.{unpackTicket, ticketReply}
 use Rattle.listing.proofs.Texts.{wrote-nothing, wrote-length, wrote-as}
-use Rattle.listing.proofs.TicketLines.{not-else, all-lines, ticket-start, ticket-room, ticket-wrote, ticket-within}
+use Rattle.listing.proofs.TicketLines.{not-refused, all-lines, ticket-start, ticket-room, ticket-wrote, ticket-within}
 use Rattle.tape_model.specs.Tape.{plainTickets, ticketsIn}
 use Rattle.tape_model.specs.Listing.{ticketLines}
 use Rattle.listing.specs.Contracts.{Wrote}
@@ -27,7 +26,7 @@ abbrev start : tie.At-loop Inv-loop μ-loop → tie.Start Inv-loop μ-loop
 start l = l .before .before .before
 
 abbrev turn : tie.After-known-told Inv-loop μ-loop → tie.At-loop Inv-loop μ-loop
-turn k = k .before .before .before .before .before
+turn k = k .before .before .before .before .before .before
 
 abbrev known : tie.After-put-ticket-line Inv-loop μ-loop → tie.After-known-told Inv-loop μ-loop
 known p = p .before .before
@@ -39,29 +38,52 @@ module _ (l : tie.At-loop Inv-loop μ-loop) where
   abbrev out : List ℕ
   out = start l .args .out .now
 
--- a reading that hands out no ticket is out of reach
-out-of-reach : tie.At-match-keys2 Inv-loop μ-loop → ⊥
-unfolding readOutcome
-out-of-reach c =
-    let l = c .before .before .before in
-    let s = start l in
-    not-else (plain l) (s .pre .0) (l .loop .i) (omega arith) _ (ap (λ (o : ReadOutcome). o .answer) (c .before .read-at .ensures)) (c .match .keys2)
+-- the length of a ticket's slice
+abbrev width : ℕ → ℕ
+width i = 13 * i + 13 - 13 * i
 
--- the ticket that was handed out
+-- bytes that do not unpack are out of reach
+out-of-reach : tie.After-enum-told Inv-loop μ-loop → ⊥
+unfolding ticketReply
+out-of-reach c =
+    let l = c .before .before .before .before .before in
+    let s = start l in
+    not-refused (plain l) (s .pre .0) (l .loop .i) (omega arith) (width (l .loop .i)) (omega arith) _
+    (ap ticketReply (sym (c .enum-told .given .1)) ∙ c .before .before .unpack-ticket .ensures)
+
+-- the ticket that was unpacked
 was-read : (k : tie.After-known-told Inv-loop μ-loop) → let l = turn k in
-    done (ticket (k .before .answer .given .0 .0)) ≡ readNext (readerAt (plain l) (l .loop .i)) .answer
-unfolding readOutcome nextReply
-was-read k = ap nextReply (sym (k .before .answer .given .1)) ∙ ap (λ (o : ReadOutcome). o .answer) (k .before .before .before .read-at .ensures)
+    done (k .before .t .given .0 .0) ≡ unpackTicket (take (width (l .loop .i)) (drop (13 * l .loop .i) (plain l)))
+unfolding ticketReply
+was-read k = ap ticketReply (sym (k .before .t .given .1)) ∙ k .before .before .before .unpack-ticket .ensures
 
 loop-holds : tie.Need-loop-holds Inv-loop μ-loop
 unfolding ticketLines
 loop-holds c = (omega arith, wrote-nothing (c .before .before .args .out .now))
 
-read-at-requires : tie.Need-read-at-requires Inv-loop μ-loop
-read-at-requires c κs = tt
+mul-from : tie.Need-mul-from Inv-loop μ-loop
+mul-from c = search needs
 
-enum-known-answer : tie.Need-enum-known-answer Inv-loop μ-loop
-enum-known-answer c = search needs
+add-end : tie.Need-add-end Inv-loop μ-loop
+add-end c = search needs
+
+sub-unpack-ticket : tie.Need-sub-unpack-ticket Inv-loop μ-loop
+sub-unpack-ticket c = search needs
+
+part-unpack-ticket-start : tie.Need-part-unpack-ticket-start Inv-loop μ-loop
+part-unpack-ticket-start c = search needs
+
+part-unpack-ticket-end : tie.Need-part-unpack-ticket-end Inv-loop μ-loop
+part-unpack-ticket-end c = search needs
+
+unpack-ticket-requires : tie.Need-unpack-ticket-requires Inv-loop μ-loop
+unpack-ticket-requires c κs = search needs
+
+enum-known-t : tie.Need-enum-known-t Inv-loop μ-loop
+enum-known-t c = search needs
+
+enum-told : tie.Need-enum-told Inv-loop μ-loop
+enum-told c = search needs
 
 same-length : tie.Need-same-length Inv-loop μ-loop
 same-length c = absurd (out-of-reach c)
@@ -76,7 +98,7 @@ sub-put-ticket-line : tie.Need-sub-put-ticket-line Inv-loop μ-loop
 sub-put-ticket-line c =
     let l = turn c in
     let s = start l in
-    ticket-start (plain l) (s .pre .0) (l .loop .i) (omega arith) _ (was-read c) (out l) (s .pre .1) (l .loop .out) (l .loop .at) (l .loop .inv .1)
+    ticket-start (plain l) (s .pre .0) (l .loop .i) (omega arith) (width (l .loop .i)) (omega arith) _ (was-read c) (out l) (s .pre .1) (l .loop .out) (l .loop .at) (l .loop .inv .1)
 
 part-put-ticket-line-start : tie.Need-part-put-ticket-line-start Inv-loop μ-loop
 part-put-ticket-line-start c = sub-put-ticket-line c
@@ -89,7 +111,7 @@ put-ticket-line-requires c κs =
     let k = c .before in
     let l = turn k in
     let s = start l in
-    ticket-room (plain l) (s .pre .0) (l .loop .i) (omega arith) _ (was-read k) (out l) (s .pre .1) (l .loop .out) (l .loop .at) (l .loop .inv .1)
+    ticket-room (plain l) (s .pre .0) (l .loop .i) (omega arith) (width (l .loop .i)) (omega arith) _ (was-read k) (out l) (s .pre .1) (l .loop .out) (l .loop .at) (l .loop .inv .1)
 
 add-at : tie.Need-add-at Inv-loop μ-loop
 add-at c =
@@ -97,7 +119,7 @@ add-at c =
     let k = known p in
     let l = turn k in
     let s = start l in
-    let within = ticket-within (plain l) (s .pre .0) (l .loop .i) (omega arith) _ (was-read k) (out l) (s .pre .1) (l .loop .out) (l .loop .at) (l .loop .inv .1)
+    let within = ticket-within (plain l) (s .pre .0) (l .loop .i) (omega arith) (width (l .loop .i)) (omega arith) _ (was-read k) (out l) (s .pre .1) (l .loop .out) (l .loop .at) (l .loop .inv .1)
     _ _ (p .put-ticket-line .ensures) in
     search needs
 
@@ -113,7 +135,7 @@ loop-again c =
     let k = known p in
     let l = turn k in
     let s = start l in
-    let wrote = ticket-wrote (plain l) (s .pre .0) (l .loop .i) (omega arith) _ (was-read k) (out l) (s .pre .1) (l .loop .out) (l .loop .at) (l .loop .inv .1)
+    let wrote = ticket-wrote (plain l) (s .pre .0) (l .loop .i) (omega arith) (width (l .loop .i)) (omega arith) _ (was-read k) (out l) (s .pre .1) (l .loop .out) (l .loop .at) (l .loop .inv .1)
     _ _ (p .put-ticket-line .ensures) in
     (omega arith, wrote)
 
@@ -133,8 +155,14 @@ put-ticket-lines-spec =
     Inv-loop
     μ-loop
     loop-holds
-    read-at-requires
-    enum-known-answer
+    mul-from
+    add-end
+    sub-unpack-ticket
+    part-unpack-ticket-start
+    part-unpack-ticket-end
+    unpack-ticket-requires
+    enum-known-t
+    enum-told
     same-length
     returns
     add-put-ticket-line

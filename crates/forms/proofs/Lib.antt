@@ -1,0 +1,3 @@
+pub mod Moving
+pub mod Mixed
+pub mod Cases

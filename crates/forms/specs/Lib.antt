@@ -1,0 +1,3 @@
+pub mod Move
+pub mod Laws
+pub mod Cases
