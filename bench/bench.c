@@ -200,21 +200,24 @@ static void read_by_library(void)
     refused |= r.refused;
 }
 
-static void unpack_by_library(void)
+static void unpack_from(const uint8_t *packed)
 {
     net = 0;
     for (size_t i = 0; i < n; i++) {
-        ht_unpacked_ticket t = ht_unpack_ticket(plain + 13 * i, 13);
+        ht_unpacked_ticket t = ht_unpack_ticket(packed + 13 * i, 13);
         refused |= t.refused;
         net += t.ticket.gross - t.ticket.tare;
     }
 }
 
-static void pack_by_library(void)
+static void pack_into(const ht_ticket *all, uint8_t *packed)
 {
     for (size_t i = 0; i < n; i++)
-        refused |= ht_pack_ticket(tickets[i], out + 13 * i, 13).refused;
+        refused |= ht_pack_ticket(all[i], packed + 13 * i, 13).refused;
 }
+
+static void unpack_by_library(void) { unpack_from(plain); }
+static void pack_by_library(void) { pack_into(tickets, out); }
 
 /* ---- forms ---- */
 
@@ -222,27 +225,9 @@ static void pack_by_library(void)
 static ht_ticket day_tickets[TICKETS];
 static uint8_t day_plain[13 * TICKETS], aside[13 * TICKETS];
 
-static void unpack_form_2_by_library(void)
-{
-    net = 0;
-    for (size_t i = 0; i < n; i++) {
-        ht_unpacked_ticket t = ht_unpack_ticket(day_plain + 13 * i, 13);
-        refused |= t.refused;
-        net += t.ticket.gross - t.ticket.tare;
-    }
-}
-
-static void pack_form_2_by_library(void)
-{
-    for (size_t i = 0; i < n; i++)
-        refused |= ht_pack_ticket(day_tickets[i], aside + 13 * i, 13).refused;
-}
-
-static void pack_form_1_by_library(void)
-{
-    for (size_t i = 0; i < n; i++)
-        refused |= ht_pack_ticket(tickets[i], aside + 13 * i, 13).refused;
-}
+static void unpack_form_2_by_library(void) { unpack_from(day_plain); }
+static void pack_form_2_by_library(void) { pack_into(day_tickets, aside); }
+static void pack_form_1_by_library(void) { pack_into(tickets, aside); }
 
 static void move_by_library(void)
 {

@@ -283,6 +283,45 @@ static void must_be_filled(const uint8_t *bytes, size_t n)
         must(bytes[i] == 0x5a, "a byte is written that must not be");
 }
 
+/* Packing a ticket, into 12 bytes and into more than 13: a broken rule comes before a short output. */
+static void packs(ht_ticket t, int right, const uint8_t *packed)
+{
+    uint8_t out[ROOM];
+
+    fill(out, sizeof out);
+    must(ht_pack_ticket(t, out, HT_TICKET_BYTES - 1).refused == (right ? 6 : 4), "a ticket is packed in 12 bytes");
+    must_be_filled(out, sizeof out);
+    ht_written w = ht_pack_ticket(t, out, sizeof out);
+    must(w.refused == (right ? 0 : 4) && w.bytes == (right ? HT_TICKET_BYTES : 0), "ht_pack_ticket answers otherwise");
+    must_be_filled(out + w.bytes, sizeof out - w.bytes);
+    must(memcmp(out, packed, w.bytes) == 0, "a ticket packs to other bytes");
+}
+
+/* What a ticket's bytes unpack to. */
+static void unpacks(ht_ticket t, int right, const uint8_t *packed)
+{
+    const ht_ticket none = {0};
+    ht_unpacked_ticket u = ht_unpack_ticket(packed, HT_TICKET_BYTES);
+
+    must(u.refused == (right ? 0 : 8) && same_ticket(u.ticket, right ? t : none), "ht_unpack_ticket answers otherwise");
+}
+
+/* A ticket that breaks the rule, added to a tape that has been started. */
+static void is_not_added(ht_ticket t)
+{
+    uint8_t out[ROOM];
+    ht_writer writer, before;
+
+    ht_writer_fresh(&writer);
+    must(ht_writer_start(&writer, key, sizeof key, (ht_head){7, 2, 1}, out, sizeof out).refused == 0, "start is refused");
+    before = writer;
+    fill(out, sizeof out);
+    ht_answer a = ht_writer_add(&writer, t, out, sizeof out);
+    must(a.refused == 4 && a.bytes == 0 && a.steps == 0, "ht_writer_add answers otherwise");
+    must(memcmp(&writer, &before, sizeof writer) == 0, "a refused call changes the writer");
+    must_be_filled(out, sizeof out);
+}
+
 /* A ticket with this gross and tare, on a tape behind another. It keeps the rule where the tare is at most the gross. */
 static void weighed(uint32_t gross, uint32_t tare)
 {
@@ -290,6 +329,7 @@ static void weighed(uint32_t gross, uint32_t tare)
     const ht_ticket first = {.form = 1, .truck = 5, .shovel = 2, .tip = 3, .grade = 4,
         .loaded = 3600, .tipped = 4200, .gross = 250000, .tare = 110000}, zeros = {0};
     const int right = tare <= gross;
+    const uint32_t refused = right ? 0 : 8;
     ht_ticket t = first, no_tare;
     uint8_t plain[ROOM], out[ROOM], nonce[HT_NONCE_BYTES] = {0}, tape[HT_HEAD_BYTES + ROOM + HT_TAG_BYTES], by_writer[sizeof tape];
     uint8_t *packed = plain + HT_TICKET_BYTES;
@@ -302,52 +342,36 @@ static void weighed(uint32_t gross, uint32_t tare)
     must(ht_pack_ticket(no_tare, packed, HT_TICKET_BYTES).refused == 0, "a ticket without tare does not pack");
     packed[10] |= (uint8_t)(tare >> 14), packed[11] = (uint8_t)(tare >> 6), packed[12] = (uint8_t)(tare << 2);
 
-    /* pack and unpack; a broken rule comes before a short output */
-    fill(out, sizeof out);
-    must(ht_pack_ticket(t, out, HT_TICKET_BYTES - 1).refused == (right ? 6 : 4), "a ticket is packed in 12 bytes");
-    must_be_filled(out, sizeof out);
-    ht_written w = ht_pack_ticket(t, out, sizeof out);
-    must(w.refused == (right ? 0 : 4) && w.bytes == (right ? HT_TICKET_BYTES : 0), "ht_pack_ticket answers otherwise");
-    must_be_filled(out + w.bytes, sizeof out - w.bytes);
-    must(memcmp(out, packed, w.bytes) == 0, "a ticket packs to other bytes");
-    ht_unpacked_ticket u = ht_unpack_ticket(packed, HT_TICKET_BYTES);
-    must(u.refused == (right ? 0 : 8) && same_ticket(u.ticket, right ? t : zeros), "ht_unpack_ticket answers otherwise");
+    packs(t, right, packed);
+    unpacks(t, right, packed);
 
     /* a tape, by ht_seal, and by the writer where it takes the ticket */
     must(ht_pack_head(head, nonce, HT_HEAD_BYTES).refused == 0, "the head does not pack");
     memcpy(tape, nonce, HT_HEAD_BYTES);
-    w = ht_seal(key, sizeof key, nonce, sizeof nonce, nonce, HT_HEAD_BYTES, plain, ROOM, tape + HT_HEAD_BYTES, ROOM + HT_TAG_BYTES);
+    ht_written w = ht_seal(key, sizeof key, nonce, sizeof nonce, nonce, HT_HEAD_BYTES, plain, ROOM, tape + HT_HEAD_BYTES, ROOM + HT_TAG_BYTES);
     must(w.refused == 0, "the tape does not seal");
     if (right) {
         must(write_tape(head, (ht_ticket[]){first, t}, 2, by_writer, sizeof by_writer) == sizeof tape, "the tape has another length");
         must(memcmp(tape, by_writer, sizeof tape) == 0, "the writer writes another tape");
     } else {
-        ht_writer writer, before;
-        ht_writer_fresh(&writer);
-        must(ht_writer_start(&writer, key, sizeof key, head, by_writer, sizeof by_writer).refused == 0, "start is refused");
-        before = writer;
-        fill(out, sizeof out);
-        ht_answer a = ht_writer_add(&writer, t, out, sizeof out);
-        must(a.refused == 4 && a.bytes == 0 && a.steps == 0, "ht_writer_add answers otherwise");
-        must(memcmp(&writer, &before, sizeof writer) == 0, "a refused call changes the writer");
-        must_be_filled(out, sizeof out);
+        is_not_added(t);
     }
 
     /* open, read, count trucks, list */
     const uint64_t net = right ? 140000 + gross - tare : 0;
     fill(out, sizeof out);
     ht_opened o = ht_open_tape(key, sizeof key, tape, sizeof tape, out, sizeof out);
-    must(o.refused == (right ? 0 : 8) && o.tickets == (right ? 2 : 0) && o.net == net, "ht_open_tape answers otherwise");
+    must(o.refused == refused && o.tickets == (right ? 2 : 0) && o.net == net, "ht_open_tape answers otherwise");
     if (right)
         must(memcmp(out, plain, sizeof plain) == 0, "another text opens");
     else
         must_be_filled(out, sizeof out);
     ht_reading r = ht_read_ticket(plain, sizeof plain, 1);
-    must(r.refused == u.refused && r.at_end == 0 && r.position == (right ? 2 : 1), "ht_read_ticket answers otherwise");
-    must(same_ticket(r.ticket, u.ticket), "another ticket was read");
-    const opened_tape both = {plain, ROOM, u.refused}, alone = {plain, HT_TICKET_BYTES, 0};
+    must(r.refused == refused && r.at_end == 0 && r.position == (right ? 2 : 1), "ht_read_ticket answers otherwise");
+    must(same_ticket(r.ticket, right ? t : zeros), "another ticket was read");
+    const opened_tape both = {plain, ROOM, refused}, alone = {plain, HT_TICKET_BYTES, 0};
     trucks_on(both, right ? 2 : 0);
-    trucks_on_two(both, alone, u.refused, right ? 1 : 0, right ? 2 : 0, right ? 1 : 0);
+    trucks_on_two(both, alone, refused, right ? 1 : 0, right ? 2 : 0, right ? 1 : 0);
     if (right)
         snprintf(listing, sizeof listing, "TAPE 7 2 1\n1 5 2 3 4 3600 4200 140000\n2 6 2 3 4 3600 4200 %" PRIu32 "\nTOTAL 2 %" PRIu64 "\n",
             gross - tare, net);
@@ -467,32 +491,15 @@ static void moves(ht_ticket t, uint8_t form, uint32_t refused)
 static void judged(ht_ticket t, int right)
 {
     const uint32_t late = t.form == 2 && t.tipped > 43199 ? 11 : 0;
-    const ht_ticket none = {0};
-    uint8_t packed[HT_TICKET_BYTES], out[ROOM], moved[HT_TICKET_BYTES];
+    uint8_t packed[HT_TICKET_BYTES], moved[HT_TICKET_BYTES];
     const int fits = pack_anyway(t, packed);
 
-    fill(out, sizeof out);
-    must(ht_pack_ticket(t, out, HT_TICKET_BYTES - 1).refused == (right ? 6 : 4), "a ticket is packed in 12 bytes");
-    must_be_filled(out, sizeof out);
-    ht_written w = ht_pack_ticket(t, out, sizeof out);
-    must(w.refused == (right ? 0 : 4) && w.bytes == (right ? HT_TICKET_BYTES : 0), "ht_pack_ticket answers otherwise");
-    must_be_filled(out + w.bytes, sizeof out - w.bytes);
-    must(memcmp(out, packed, w.bytes) == 0, "a ticket packs to other bytes");
-    if (!right) {
-        ht_writer writer, before;
-        ht_writer_fresh(&writer);
-        must(ht_writer_start(&writer, key, sizeof key, (ht_head){7, 2, 1}, out, sizeof out).refused == 0, "start is refused");
-        before = writer;
-        fill(out, sizeof out);
-        ht_answer a = ht_writer_add(&writer, t, out, sizeof out);
-        must(a.refused == 4 && a.bytes == 0 && a.steps == 0, "ht_writer_add answers otherwise");
-        must(memcmp(&writer, &before, sizeof writer) == 0, "a refused call changes the writer");
-        must_be_filled(out, sizeof out);
-    }
+    packs(t, right, packed);
+    if (!right)
+        is_not_added(t);
     must(fits || !right, "a field does not fit");
     if (fits) {
-        ht_unpacked_ticket u = ht_unpack_ticket(packed, HT_TICKET_BYTES);
-        must(u.refused == (right ? 0 : 8) && same_ticket(u.ticket, right ? t : none), "ht_unpack_ticket answers otherwise");
+        unpacks(t, right, packed);
         on_mixed_tape(t, packed, right);
     }
 

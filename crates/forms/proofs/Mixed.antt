@@ -9,7 +9,7 @@ use Rattle.calls.specs.Calls.{Reply, refused, done}
 use Rattle.acorn_model.specs.Machine.{keyLength}
 use Rattle.tape_model.specs.declared.Ticket.{Ticket}
 use Rattle.tape_model.specs.declared.Head.{Head}
-use Rattle.tape_model.specs.Ticket.{inForm, ticketRule, net, headRule}
+use Rattle.tape_model.specs.Ticket.{inForm, net, headRule}
 use Rattle.tape_model.specs.Tape.{ticketLimit, tapeOf, totalNet, Totals, totalsOf}
 use Rattle.tape_model.specs.Listing.{headLine, ticketLine, ticketLines, lineOfTotals, totalLine, listed, printed}
 use Rattle.tape_model.specs.Laws.{Valid}

@@ -3,7 +3,7 @@ use mathlib.Core.Path.{_≡_}
 use mathlib.Core.List.{List, [], _∷_, _++_}
 use Prim.Native.Nat.{ℕ, _≤_}
 use lib.ListN.{length}
-use Rattle.calls.specs.Calls.{Reply, refused, done, writtenOver}
+use Rattle.calls.specs.Calls.{refused, done, writtenOver}
 use Rattle.acorn_model.specs.Machine.{keyLength}
 use Rattle.tape_model.specs.declared.Ticket.{Ticket}
 use Rattle.tape_model.specs.Ticket.{inForm, packTicket, unpackTicket}

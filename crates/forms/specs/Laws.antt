@@ -1,9 +1,9 @@
 -- What is shown of the move between forms, and of tapes that hold both: the statements, to be read without their proofs.
 use mathlib.Core.Path.{_≡_}
-use mathlib.Core.Bool.{Bool, true, false}
-use mathlib.Core.List.{List, [], _∷_, _++_, map}
+use mathlib.Core.Bool.{true, false}
+use mathlib.Core.List.{List, _++_, map}
 use mathlib.Core.Logic.{_↔_, _⊎_}
-use Prim.Native.Nat.{ℕ, _*_, _≤_, _<_}
+use Prim.Native.Nat.{ℕ, _≤_, _<_}
 use lib.ListN.{length}
 use Rattle.calls.specs.Calls.{AreBytes, Reply, refused, done, mapReply}
 use Rattle.acorn_model.specs.Machine.{keyLength}

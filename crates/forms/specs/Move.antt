@@ -1,6 +1,5 @@
 -- Document 02, P6: a ticket moved to form 1 or form 2.
 use mathlib.Core.Bool.{Bool, not, _&&_, _||_}
-use mathlib.Core.List.{List}
 use Prim.Native.Nat.{ℕ}
 use lib.Dec.{eqb, ltb}
 use Rattle.calls.specs.Calls.{_if_else_, Reply, accepted, replyOf}

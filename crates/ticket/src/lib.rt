@@ -30,20 +30,35 @@ fn last_second(t: Ticket) -> u32
     if t.form == 2 { 86399 } else { 43199 }
 }
 
-// The ticket rule, as one chain of tests.
-pub fn valid(t: Ticket) -> bool
-    ensures { λ r. ⌜ r ≡ model.ticketRule t ⌝ }
+// Whether tipped is in its range.
+fn tipped_in_range(t: Ticket) -> bool
+    ensures { λ r. ⌜ r ≡ tippedInRange t ⌝ }
 {
-    let last = last_second(t);
-    ((1 <= t.form) & (t.form <= 2))
-        & ((1 <= t.truck) & (t.truck <= 1023))
+    t.tipped <= last_second(t)
+}
+
+// The ranges of truck, shovel, tip point and grade.
+fn place_valid(t: Ticket) -> bool
+    ensures { λ r. ⌜ r ≡ placeRule t ⌝ }
+{
+    ((1 <= t.truck) & (t.truck <= 1023))
         & ((1 <= t.shovel) & (t.shovel <= 63))
         & ((1 <= t.tip) & (t.tip <= 63))
         & (t.grade <= 9)
-        & (t.tipped <= last)
-        & (t.gross <= 1048575)
-        & (t.loaded <= t.tipped)
-        & (t.tare <= t.gross)
+}
+
+// The range of gross, and the two orders.
+fn load_valid(t: Ticket) -> bool
+    ensures { λ r. ⌜ r ≡ loadRule t ⌝ }
+{
+    (t.gross <= 1048575) & (t.loaded <= t.tipped) & (t.tare <= t.gross)
+}
+
+// The ticket rule.
+pub fn valid(t: Ticket) -> bool
+    ensures { λ r. ⌜ r ≡ model.ticketRule t ⌝ }
+{
+    (((1 <= t.form) & (t.form <= 2)) & tipped_in_range(t)) & (place_valid(t) & load_valid(t))
 }
 
 // The rule for a ticket that is to be written.
@@ -104,7 +119,8 @@ fn words_of(t: Ticket) -> Words
     }
 }
 
-// The 13 bytes of the number, taken from the words turned round, so that four of them in a row are a shift.
+// The 13 bytes of the number, taken from the words turned round, so that eight of them in a row are one store and the next four another. The
+// last is taken from the word as it is: five bytes of one word would be five stores.
 fn ticket_bytes(w: Words) -> [u8; 13]
     requires { ⌜ w .low < 2 ^ 40 ⌝ }
     ensures { λ r. ⌜ r ≡ cut (byteWidths 13) (w .high * 2 ^ 40 + w .low) ⌝ }
@@ -124,7 +140,7 @@ fn ticket_bytes(w: Words) -> [u8; 13]
         (l / 0x100 % 256) as u8,
         (l / 0x1_0000 % 256) as u8,
         (l / 0x100_0000 % 256) as u8,
-        (l / 0x1_0000_0000 % 256) as u8,
+        (w.low % 256) as u8,
     ]
 }
 
@@ -230,30 +246,6 @@ fn ticket_in_form_2(h: u64, l: u64) -> Ticket
         gross: (l / 0x10_0000 % 0x10_0000) as u32,
         tare: (l % 0x10_0000) as u32,
     }
-}
-
-// Whether tipped is in its range.
-fn tipped_in_range(t: Ticket) -> bool
-    ensures { λ r. ⌜ r ≡ tippedInRange t ⌝ }
-{
-    t.tipped <= last_second(t)
-}
-
-// The ranges of truck, shovel, tip point and grade.
-fn place_valid(read: Ticket) -> bool
-    ensures { λ r. ⌜ r ≡ placeRule read ⌝ }
-{
-    ((1 <= read.truck) & (read.truck <= 1023))
-        & ((1 <= read.shovel) & (read.shovel <= 63))
-        & ((1 <= read.tip) & (read.tip <= 63))
-        & (read.grade <= 9)
-}
-
-// The range of gross, and the two orders.
-fn load_valid(read: Ticket) -> bool
-    ensures { λ r. ⌜ r ≡ loadRule read ⌝ }
-{
-    (read.gross <= 1048575) & (read.loaded <= read.tipped) & (read.tare <= read.gross)
 }
 
 // The ticket in packed bytes: 2 for another size than 13, 8 where its values or spare bits, which form 1 alone has, break the rule. Form 1 is told by

@@ -234,6 +234,20 @@ fn both_forms() -> Vec<Ticket> {
     ]
 }
 
+/// The ticket with its truck, shovel, tip point or grade outside its range, which is the same in
+/// either form.
+fn places_out_of_range(t: Ticket) -> [Ticket; 7] {
+    [
+        Ticket { truck: 0, ..t },
+        Ticket { truck: 1_024, ..t },
+        Ticket { shovel: 0, ..t },
+        Ticket { shovel: 64, ..t },
+        Ticket { tip: 0, ..t },
+        Ticket { tip: 64, ..t },
+        Ticket { grade: 10, ..t },
+    ]
+}
+
 /// Tickets of form 2 that break the rule, each in one place; and forms that there are not.
 fn broken_forms() -> Vec<Ticket> {
     let t = FORM_2;
@@ -242,7 +256,7 @@ fn broken_forms() -> Vec<Ticket> {
         tipped,
         ..t
     };
-    vec![
+    let before = [
         Ticket { form: 15, ..t },
         timed(3_600, 86_400),
         timed(3_600, 131_071),
@@ -252,13 +266,8 @@ fn broken_forms() -> Vec<Ticket> {
         timed(65_536, 65_535),
         timed(65_536 + 4_200, 4_200),
         timed(3_600, 131_072 + 4_200),
-        Ticket { truck: 0, ..t },
-        Ticket { truck: 1_024, ..t },
-        Ticket { shovel: 0, ..t },
-        Ticket { shovel: 64, ..t },
-        Ticket { tip: 0, ..t },
-        Ticket { tip: 64, ..t },
-        Ticket { grade: 10, ..t },
+    ];
+    let after = [
         Ticket {
             gross: 1_048_576,
             ..t
@@ -272,23 +281,16 @@ fn broken_forms() -> Vec<Ticket> {
             tare: 1_048_576,
             ..GREATEST_FORM_2
         },
-    ]
+    ];
+    [&before[..], &places_out_of_range(t), &after[..]].concat()
 }
 
 /// Tickets that break the rule, each in one place. Those that came with form 2 stand in
 /// [`broken_forms`].
 fn broken_tickets() -> Vec<Ticket> {
     let t = TICKET;
-    vec![
-        Ticket { form: 0, ..t },
-        Ticket { form: 3, ..t },
-        Ticket { truck: 0, ..t },
-        Ticket { truck: 1_024, ..t },
-        Ticket { shovel: 0, ..t },
-        Ticket { shovel: 64, ..t },
-        Ticket { tip: 0, ..t },
-        Ticket { tip: 64, ..t },
-        Ticket { grade: 10, ..t },
+    let before = [Ticket { form: 0, ..t }, Ticket { form: 3, ..t }];
+    let after = [
         Ticket { loaded: 4_201, ..t },
         Ticket {
             tipped: 43_200,
@@ -328,7 +330,8 @@ fn broken_tickets() -> Vec<Ticket> {
             grade: 10,
             ..EMPTY_TRIPS[2]
         },
-    ]
+    ];
+    [&before[..], &places_out_of_range(t), &after[..]].concat()
 }
 
 /// Heads with one field outside its range.

@@ -6,6 +6,17 @@ use haul_tape_differential::calls::write_tape;
 use haul_tape_differential::kit::{pack_anyway, sealed};
 use haul_tape_differential::random::{tare_above_gross, turned, Random};
 
+/// A tape of these tickets, some of which break the rule, is listed with number 8.
+fn is_refused(key: &[u8; 16], head: Head, tickets: &[Ticket]) {
+    let plain: Vec<u8> = tickets
+        .iter()
+        .flat_map(|&t| pack_anyway(t))
+        .flatten()
+        .collect();
+    let tape = sealed(key, head.pack().unwrap(), &plain);
+    assert_eq!(both::listing(key, &tape), b"REFUSED 8\n");
+}
+
 #[test]
 fn random_tapes() {
     let mut random = Random::for_test();
@@ -103,13 +114,7 @@ fn trips_back_empty() {
         assert_eq!(lines[6..], [format!("TOTAL 5 {total}")]);
 
         tickets[place] = tare_above_gross(t);
-        let plain: Vec<u8> = tickets
-            .into_iter()
-            .flat_map(pack_anyway)
-            .flatten()
-            .collect();
-        let tape = sealed(&key, head.pack().unwrap(), &plain);
-        assert_eq!(both::listing(&key, &tape), b"REFUSED 8\n");
+        is_refused(&key, head, &tickets);
     }
 }
 
@@ -141,13 +146,7 @@ fn both_forms() {
         ] {
             let mut tickets = tickets.clone();
             tickets[random.below(6)] = wrong;
-            let plain: Vec<u8> = tickets
-                .into_iter()
-                .flat_map(pack_anyway)
-                .flatten()
-                .collect();
-            let tape = sealed(&key, head.pack().unwrap(), &plain);
-            assert_eq!(both::listing(&key, &tape), b"REFUSED 8\n");
+            is_refused(&key, head, &tickets);
         }
     }
 }

@@ -1,7 +1,7 @@
 -- `ticket_bytes`: the bytes of the two words are those of their number.
-use Prim.Native.Nat.{ℕ, _*_, _^_, _<_}
+use Prim.Native.Nat.{ℕ, _*_, _%_, _^_, _<_}
 use mathlib.Core.Path.{_≡_, refl, sym, ap, ap₂, _∙_}
-use mathlib.Core.List.{List, _++_, reverse}
+use mathlib.Core.List.{List, [], _∷_, _++_}
 use native.Mathlib.Omega.{arith}
 use borrow.Author.Needs.{needs}
 use lib.ListN.{take}
@@ -12,7 +12,7 @@ use Rattle.ticket.proofs.ticket_bytes.Statement.{statement}
 use Rattle.ticket.proofs.ticket_bytes.Tie as tie
 
 -- 40 bits at the top of a word
-top : (x : ℕ) → x < 2 ^ 40 → take 5 (cut (byteWidths 8) (x * 2 ^ 24)) ≡ cut (byteWidths 5) x
+top : (x : ℕ) → x < 2 ^ 40 → (take 4 (cut (byteWidths 8) (x * 2 ^ 24)) ++ (x % 256 ∷ [])) ≡ cut (byteWidths 5) x
 top x h = cons (omega arith) (cons (omega arith) (cons (omega arith) (cons (omega arith) (cons (omega arith) refl))))
 
 turned-requires : tie.Need-turned-requires
@@ -60,15 +60,16 @@ cast-t36 c = search needs
 cast-t39 : tie.Need-cast-t39
 cast-t39 c = search needs
 
-cast-t42 : tie.Need-cast-t42
-cast-t42 c = search needs
+cast-t41 : tie.Need-cast-t41
+cast-t41 c = search needs
 
 returns : tie.Need-returns
 returns c =
-    let start = c .before .before .before in
+    let d = c .before in
+    let start = d .before .before .before in
     let high = start .args .w .high in
     let low = start .args .w .low in
-    ap₂ _++_ (turned-bytes high _ (c .before .before .turned .ensures)) (ap (take 5) (turned-bytes (low * 2 ^ 24) _ (c .turned2 .ensures)) ∙ top low (start .pre))
+    ap₂ _++_ (turned-bytes high _ (d .before .before .turned .ensures)) (ap (λ (bytes : List ℕ). take 4 bytes ++ (low % 256 ∷ [])) (turned-bytes (low * 2 ^ 24) _ (d .turned2 .ensures)) ∙ top low (start .pre))
     ∙ sym (cut-append (byteWidths 8) (byteWidths 5) high low (start .pre))
 
 pub ticket-bytes-spec : {M : Type 1} → statement M
@@ -90,5 +91,5 @@ ticket-bytes-spec =
     cast-t33
     cast-t36
     cast-t39
-    cast-t42
+    cast-t41
     returns)

@@ -1,15 +1,12 @@
 -- `unpack_ticket` answers as the bytes unpack, refusals included.
-use Prim.Native.Nat.{ℕ}
-use mathlib.Core.Path.{_≡_, sym, ap, ap₂, _∙_}
+use mathlib.Core.Path.{_≡_, refl, sym, ap₂, _∙_}
 use mathlib.Core.Bool.{Bool, true, false, _&&_}
 use mathlib.Core.Logic.{⊎-elim}
 use native.Mathlib.Omega.{arith}
 use borrow.Author.Tests.{ne-eqb, not-true, not-false}
 use borrow.Author.Needs.{needs}
 use Rattle.calls.specs.Calls.{_if_else_, refused, done, unlessRefused}
-use Rattle.tape_model.specs.declared.Ticket.{Ticket}
 use Rattle.tape_model.specs.Ticket.{unpackTicket, ticketReply}
-use Rattle.ticket.specs.Rule.{between, tippedInRange}
 use Rattle.ticket.proofs.Rules.{too-late, by-rest}
 use Rattle.ticket.proofs.Reading.{Seen, first-byte, form-1-answered, form-2-answered, spare-answered, other-answered}
 use Rattle.ticket.proofs.unpack_ticket.Statement.{statement}
@@ -106,9 +103,9 @@ judged c v e =
     let rest = sym e ∙ ap₂ _&&_ (c .before .place-valid .ensures) (c .load-valid .ensures) in
     ⊎-elim
     (λ x. form-1-answered _ _ _ w (j .t) v (x .0 .taken) (x .1 .left) (λ k a b. x .5 ∙ x .2 .ensures .1 k a b)
-    (by-rest (j .t) v (ap (λ (form : ℕ). between 1 form 2) (ap (λ (u : Ticket). u .form) (x .5) ∙ x .2 .ensures .0)) (ap tippedInRange (x .5) ∙ sym (x .3 .ensures) ∙ not-false _ (x .4 .left)) rest))
+    (by-rest (j .t) _ 1 v (x .5) (x .2 .ensures .0) refl (sym (x .3 .ensures) ∙ not-false _ (x .4 .left)) rest))
     (λ x. form-2-answered _ _ _ w (j .t) v (x .1 .left) (λ k a b. x .5 ∙ x .2 .ensures .1 k a b)
-    (by-rest (j .t) v (ap (λ (form : ℕ). between 1 form 2) (ap (λ (u : Ticket). u .form) (x .5) ∙ x .2 .ensures .0)) (ap tippedInRange (x .5) ∙ sym (x .3 .ensures) ∙ not-false _ (x .4 .left)) rest))
+    (by-rest (j .t) _ 2 v (x .5) (x .2 .ensures .0) refl (sym (x .3 .ensures) ∙ not-false _ (x .4 .left)) rest))
     (j .came)
 
 returns-6 : tie.Need-returns-6
