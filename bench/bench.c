@@ -14,6 +14,7 @@
 #include <time.h>
 #include "acorn_opt.h"
 #include "haul_tape.h"
+#include "peer_pairing.h"
 #include "peer_rust.h"
 #include "peer_tape.h"
 
@@ -38,7 +39,7 @@ static size_t textlen, datalen;    /* bytes of a message */
 static size_t each;                /* bytes of a piece */
 static uint8_t out[HT_MOST_LISTING_BYTES], unread[MOST];
 static uint32_t refused;           /* stays 0 while every call is done */
-static uint64_t net;               /* of the tickets, as the last call has it; or its numbers of trucks, or of bytes heard */
+static uint64_t net;               /* of the tickets, as the last call has it; or its numbers of trucks, of bytes heard or of pairs */
 static uint64_t plain_net;         /* of the tickets in the plain bytes */
 
 /* ---- messages ---- */
@@ -300,12 +301,36 @@ PARTING(words, peer_parting_by_words)
 LONGER(library, ht_longer)
 LONGER(c, peer_longer)
 
+/* ---- pairs ---- */
+
+static uint8_t cab[HT_MOST_PLAIN_BYTES], crusher[HT_MOST_PLAIN_BYTES];
+static uint32_t numbers[4 * TICKETS];    /* those of the pairs, and of what is left over on either tape */
+
+#define PAIR(maker, pair_tapes)                                              \
+    static void pair_by_##maker(void)                                        \
+    {                                                                        \
+        ht_paired r = pair_tapes(cab, 13 * n, crusher, 13 * n, numbers, 2 * TICKETS, \
+            numbers + 2 * TICKETS, TICKETS, numbers + 3 * TICKETS, TICKETS); \
+        refused |= r.refused;                                                \
+        net = r.pairs << 40 | r.left_first << 20 | r.left_second;            \
+    }
+
+PAIR(library, ht_pair_tapes)
+PAIR(c, peer_pair_tapes)
+
+static void unpack_both_by_library(void)
+{
+    unpack_from(cab);
+    unpack_from(crusher);
+}
+
 /* ---- the table ---- */
 
-/* A call or several, the makers that have it, and the sizes that are timed. A program stands in the library's place; it makes RUNS runs. */
+/* A call or several, the makers that have it, and the sizes that are timed. A program stands in the library's place; it makes RUNS runs.
+ * Of two tapes to be paired the second has times close to the first's, all later or all earlier; `each` is the number of their trucks. */
 typedef struct {
     const char *what;
-    enum { TEXT, DATA, TAPE, HEARD } given;
+    enum { TEXT, DATA, TAPE, HEARD, CLOSE, LATER, EARLIER } given;
     size_t each;
     void (*by[MAKERS])(void);
     size_t sizes[21];    /* up to the first 0 that is not in front */
@@ -319,6 +344,11 @@ enum { RUNS = 400 };
 #define GROWTH { 0, 655, 6554, 65536 }
 #define TICKET_GROWTH { 0, 50, 500, 5000 }
 #define HEARD_GROWTH { 0, 650, 6503, 65025 }
+#define PAIRS(given, times, each, trucks)                                    \
+    { "ht_pair_tapes: tickets on each of two tapes, " trucks ", " times " (in Rust's place: ht_unpack_ticket over both tapes)", given, each, \
+        { pair_by_library, pair_by_c, unpack_both_by_library }, { 0, 500, 5000 }, 0 }
+#define PAIRS_OF_TRUCKS(each, trucks) PAIRS(CLOSE, "most in pairs", each, trucks), PAIRS(LATER, "the second far later", each, trucks), \
+    PAIRS(EARLIER, "the second far earlier", each, trucks)
 
 static const call calls[] = {
     { "ht_seal: bytes of text", TEXT, 0, BY_ALL(seal), LENGTHS, 0 },
@@ -357,6 +387,9 @@ static const call calls[] = {
     { "ht_parting: bytes of each of two equal receptions (C byte by byte; in Rust's place: C by words of 8 bytes)", HEARD, 0,
         { parting_by_library, parting_by_c, parting_by_words }, HEARD_GROWTH, 0 },
     { "ht_longer: bytes of each of two equal receptions (C byte by byte)", HEARD, 0, { longer_by_library, longer_by_c, 0 }, HEARD_GROWTH, 0 },
+    PAIRS_OF_TRUCKS(1, "1 truck"),
+    PAIRS_OF_TRUCKS(20, "20 trucks"),
+    PAIRS_OF_TRUCKS(1000, "1,000 trucks"),
     { "bench_pieces, a Rattle program: bytes of text through a session in pieces of 13 (C by the cipher's parts)", TEXT, 13,
         { 0, session_by_c, 0 }, { 65000 }, "target/bin/bench_pieces" },
     { "bench_tape, a Rattle program: tickets through a writer, their fields set just before their add", TAPE, 0,
@@ -378,6 +411,11 @@ static _Noreturn void fail(const char *what, const char *why)
 {
     fprintf(stderr, "bench: %s: %s\n", what, why);
     exit(1);
+}
+
+static int pairs(const call *c)
+{
+    return c->given == CLOSE || c->given == LATER || c->given == EARLIER;
 }
 
 /* Another build of the library is timed without the programs and `totals`. */
@@ -417,6 +455,24 @@ static void make_inputs(void)
     }
 }
 
+/* Two tapes to be paired. The trucks come by turns, and all times rise. Where they are close, the second clock is a minute ahead, and of
+ * sixteen of its tickets one has a truck that the first tape has not. */
+static void make_tapes_to_pair(const call *c)
+{
+    const int close = c->given == CLOSE;
+    for (uint32_t i = 0; i < n; i++) {
+        ht_ticket t;
+        SET_FIELDS(t, i);
+        t.loaded = 0;
+        t.truck = (uint16_t)(1 + i % c->each);
+        t.tipped = close ? 8 * i : 4 * i + (c->given == EARLIER ? 22000 : 0);
+        refused |= ht_pack_ticket(t, cab + 13 * i, 13).refused;
+        t.truck = close && i % 16 == 15 ? 1023 : t.truck;
+        t.tipped = close ? 8 * i + 60 : 4 * i + (c->given == LATER ? 22000 : 0);
+        refused |= ht_pack_ticket(t, crusher + 13 * i, 13).refused;
+    }
+}
+
 /* What the calls of a row are given, made by the peer in C. */
 static void prepare(const row *r)
 {
@@ -424,7 +480,7 @@ static void prepare(const row *r)
     each = r->call->each;
     textlen = r->call->given == TEXT ? r->size : 0, datalen = r->call->given == DATA ? r->size : 0;
     opt_crypto_aead_encrypt(sealed, &len, text, textlen, text, datalen, 0, nonce, key);
-    n = r->call->given == TAPE ? r->size : r->call->given == HEARD ? TICKETS : 0;
+    n = r->call->given == TAPE || pairs(r->call) ? r->size : r->call->given == HEARD ? TICKETS : 0;
     heard = r->call->given == HEARD ? r->size : 0;
     write_ready_by_c();
     memcpy(tape, out, 25 + 13 * n);
@@ -432,22 +488,26 @@ static void prepare(const row *r)
     ht_opened opened = peer_open_tape(key, 16, tape, 25 + 13 * n, plain, sizeof plain);
     refused |= opened.refused;
     plain_net = opened.net;
+    if (pairs(r->call)) make_tapes_to_pair(r->call);
 }
 
 /* Ends the program where a call is sent back, or where the makers write different bytes or have different totals or other numbers. */
 static void compare(const row *r)
 {
     static uint8_t first[sizeof out];
+    static uint32_t first_numbers[4 * TICKETS];
     uint64_t first_net = 0;
     int makers = 0;
     prepare(r);
     for (int m = 0; m < MAKERS; m++) {
         if (!r->call->by[m]) continue;
-        memset(out, 0, sizeof out), net = 0;
+        memset(out, 0, sizeof out), memset(numbers, 0, sizeof numbers), net = 0;
         r->call->by[m]();
         if (refused) fail(r->call->what, "a call is sent back");
-        if (makers++ == 0) memcpy(first, out, sizeof out), first_net = net;
-        if (memcmp(first, out, sizeof out) != 0 || net != first_net) fail(r->call->what, "library and peer differ");
+        if (r->call->by[m] == unpack_both_by_library) continue;    /* other work, of which only the time is compared */
+        if (makers++ == 0) memcpy(first, out, sizeof out), memcpy(first_numbers, numbers, sizeof numbers), first_net = net;
+        if (memcmp(first, out, sizeof out) != 0 || memcmp(first_numbers, numbers, sizeof numbers) != 0 || net != first_net)
+            fail(r->call->what, "library and peer differ");
     }
 }
 
@@ -599,7 +659,7 @@ static void print_table(void)
     for (int i = 0; i < 2; i++)
         printf(" %9s %9s %6s %9s %6s %7s%s", "library", "C", "ratio", "Rust", "ratio", "each", i ? "\n" : " |");
     for (const row *r = rows; r < rows + all; r++) {
-        size_t limit = r->call->given == TAPE ? TICKETS : r->call->given == HEARD ? HT_MOST_TAPE_BYTES : MOST;
+        size_t limit = r->call->given == TAPE || pairs(r->call) ? TICKETS : r->call->given == HEARD ? HT_MOST_TAPE_BYTES : MOST;
         int percent = r->size == limit ? 100 : r->size == (limit + 5) / 10 ? 10 : r->size == limit / 100 ? 1 : 0;
         double time = 0, count = 0;
         if (r == rows || r->call != r[-1].call) {
@@ -620,6 +680,21 @@ static void print_table(void)
     }
 }
 
+/* The worst rows of pairing. It is to take at most 20 times the unpacking of both tapes, and at most 15 times as long for ten times the
+ * tickets. */
+static void print_pairing(void)
+{
+    double unpacking = 0, growth = 0;
+    for (const row *r = rows + 1; r < rows + all; r++) {
+        if (!pairs(r->call) || r->size != TICKETS) continue;
+        double to_unpacking = r->time[LIBRARY] / r->time[RUST], grown = r->time[LIBRARY] / r[-1].time[LIBRARY];
+        if (to_unpacking > unpacking) unpacking = to_unpacking;
+        if (grown > growth) growth = grown;
+    }
+    printf("\nPairing of 5,000 tickets takes, in its worst rows, %.2f times the unpacking of both tapes (at most 20) and %.2f times the\n"
+           "pairing of 500 (at most 15).\n", unpacking, growth);
+}
+
 int main(int argc, char **argv)
 {
     if (argc < 2) fail("usage", "bench SECONDS [COUNTS] or bench --count");
@@ -638,5 +713,6 @@ int main(int argc, char **argv)
             time_row(&rows[i], 1e9 * atof(argv[1]) / PASSES);
     if (refused) fail("timing", "a call was sent back");
     print_table();
+    print_pairing();
     return 0;
 }

@@ -2,17 +2,17 @@
  * memset and no more. It is built for x86-64, and uses SSE registers as the calling convention there has it.
  *
  * Nothing here allocates or keeps anything: sessions, writers and sets of trucks are structs of words that the caller places, and every
- * buffer comes with its length. No call reads or writes beyond the lengths given. An output, session, writer or set must not overlap
- * anything else that the call is given (so nothing is sealed in place), and a pointer must not be null, not even with length 0.
- * There is no global state: calls on different structs and buffers may run at the same time.
+ * buffer comes with its length: bytes, or numbers where it is one of uint32_t. No call reads or writes beyond the lengths given. An output,
+ * session, writer or set must not overlap anything else that the call is given (so nothing is sealed in place), and a pointer must not be
+ * null, not even with length 0. There is no global state: calls on different structs and buffers may run at the same time.
  *
  * Secrets: the words of a session or writer that is not closed are as secret as its key. A close that is done or ends with 7, and a
  * finish that is done, put zeros in place of the cipher's state, so that counts, phase and the tag's length are left; one that is
  * sent back stores nothing. A session or writer that is given up is cleared by setting it fresh. After an opening refused with 7 or
  * 8, or a listing refused with 6, no 8 bytes of the decrypted text in a row are on the stack, nor the whole of a text of 4 to 7;
  * after 8 and after 6 single fields of a ticket and sums may be. A call that is done may leave text there; a call on opened bytes may
- * leave fields of tickets and sets of trucks there, done or refused. Every call that runs the cipher may leave words of its state
- * there, and these with the ciphertext give the text: a caller that must not leave them overwrites the stack below the call. In
+ * leave fields of tickets, sets of trucks and positions of pairs there, done or refused. Every call that runs the cipher may leave words of
+ * its state there, and these with the ciphertext give the text: a caller that must not leave them overwrites the stack below the call. In
  * sealing, sessions, the writer, opening and listing no branch and no address depends on the key, the text or the state, but for the
  * verdict on a tag, the rule on a ticket and its form, and what a listing prints. Tested, as built for x86-64.
  *
@@ -23,17 +23,18 @@
  * Stack, at most, from the return address down, tested on x86-64 (a dynamic linker that binds memcpy and memset late takes more,
  * once):
  *
- *   ht_open       640 bytes without text; 3 KiB for text up to 2,048 bytes, 10 KiB up to 8,192, 20 KiB up to 16,384, 74 KiB above
- *   ht_open_tag   as ht_open
- *   ht_open_tape  1,280 bytes up to 39 tickets; 4 KiB up to 157, 10 KiB up to 630, 66 KiB above
- *   ht_list_tape  65 KiB
- *   each other    640 bytes
+ *   ht_open        640 bytes without text; 3 KiB for text up to 2,048 bytes, 10 KiB up to 8,192, 20 KiB up to 16,384, 74 KiB above
+ *   ht_open_tag    as ht_open
+ *   ht_open_tape   1,280 bytes up to 39 tickets; 4 KiB up to 157, 10 KiB up to 630, 66 KiB above
+ *   ht_list_tape   65 KiB
+ *   ht_pair_tapes  36 KiB
+ *   each other     640 bytes
  *
  * Each answer but that of ht_longer, which is never refused, has a field `refused`: 0 where the call was done, else the number that
- * sent it back. The smallest number that applies is given, but 9 is tried right after 1, before 2; and the rest of the answer is 0 (a
- * reading's position stays, and 10 comes with its place). The numbers beside a call stand in the order in which they are tried. A
- * refused call changes nothing: every word of its struct and every byte of its buffers is as it was; but a wrong tag (7) closes a
- * checking session.
+ * sent it back. The smallest number that applies is given, but 9 is tried right after 1, before 2, and in pairing 6 is tried last, after
+ * 12; and the rest of the answer is 0 (a reading's position stays, and 10 comes with its place). The numbers beside a call stand in the
+ * order in which they are tried. A refused call changes nothing: every word of its struct and every byte of its buffers is as it was; but a
+ * wrong tag (7) closes a checking session.
  *
  *   1  the call does not fit the phase, or is meant for the other kind of session
  *   2  a key or nonce that is not 16 bytes; a tag of another length than the one fixed; sealed bytes shorter than the tag; a tape that
@@ -42,12 +43,13 @@
  *   3  a head field outside its range
  *   4  a ticket to be written or moved breaks a rule; a form asked for that is neither 1 nor 2
  *   5  more than 65,536 bytes of data, or of text; a 5,001st ticket
- *   6  the output is too short
+ *   6  the output is too short, or one of several is
  *   7  the tag differs
  *   8  a ticket does not unpack
  *   9  the length asked for a tag is not 8 to 16 bytes
  *  10  two receptions part
  *  11  a ticket of form 2 that is tipped after second 43,199 is asked for in form 1
+ *  12  a truck's tipped times on a tape to be paired fall
  */
 #ifndef HAUL_TAPE_H
 #define HAUL_TAPE_H
@@ -223,6 +225,23 @@ ht_parted ht_parting(const uint8_t *first, size_t firstlen, const uint8_t *secon
 typedef struct { uint32_t mast; uint64_t bytes; } ht_reception;
 
 ht_reception ht_longer(const uint8_t *first, size_t firstlen, const uint8_t *second, size_t secondlen);
+
+/* ---- cab against crusher ---- */
+
+/* Pairs the tickets of two opened tapes: same truck, tipped at most 120 seconds apart, each ticket in at most one pair. The tickets of the
+ * first tape come in tape order, and each is paired with the earliest ticket of the second that fits it and has no partner yet; no other
+ * pairing that keeps these rules has more pairs. A truck's tipped times must not fall from one of its tickets to the next on the same
+ * tape; equal times are allowed. Branches and addresses in this call depend on the tickets. */
+
+/* how many pairs, and how many tickets are left over on either tape: pairs plus left over are the tickets of that tape */
+typedef struct { uint32_t refused; uint64_t pairs; uint64_t left_first; uint64_t left_second; } ht_paired;
+
+/* Writes positions, counted from 1 as in the listing: two numbers a pair, the first tape's position and the second's, in the first tape's
+ * order; and those of the tickets left over, each tape's in its own order. Nothing behind them changes. For tapes of n and m tickets,
+ * outputs of 2 * min(n, m), n and m numbers always suffice. 2, 8 and 12 are each tried on both tapes before the next; then 6, where an
+ * output is shorter than what was found. */
+ht_paired ht_pair_tapes(const uint8_t *first, size_t firstlen, const uint8_t *second, size_t secondlen, uint32_t *pairs, size_t pairslen,
+    uint32_t *left_first, size_t left_firstlen, uint32_t *left_second, size_t left_secondlen); /* 2, 8, 12, 6 */
 
 #ifdef __cplusplus
 }

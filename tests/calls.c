@@ -1,7 +1,7 @@
 /* Every call of the header: two tickets go onto a tape, the tape is opened and read back, a message is sealed and checked in pieces,
  * the trucks of tapes are counted, tickets are judged by their weights and by their times in both forms and moved from one form to the
- * other, messages have tags of every length, and two receptions of a tape are compared. Prints what it read, and ends with 1 where
- * anything is not as it should be.
+ * other, messages have tags of every length, two receptions of a tape are compared, and the tickets of two tapes are paired. Prints what it
+ * read, and ends with 1 where anything is not as it should be.
  */
 #include "haul_tape.h"
 
@@ -20,6 +20,7 @@ _Static_assert(sizeof(ht_truck_count) == 8 && sizeof(ht_truck_counts) == 16 && s
 _Static_assert(sizeof(ht_session) == 88 && sizeof(ht_writer) == 96, "layout");
 _Static_assert(sizeof(ht_parted) == 16 && offsetof(ht_parted, place) == 8, "layout");
 _Static_assert(sizeof(ht_reception) == 16 && offsetof(ht_reception, bytes) == 8, "layout");
+_Static_assert(sizeof(ht_paired) == 32 && offsetof(ht_paired, pairs) == 8 && offsetof(ht_paired, left_second) == 24, "layout");
 
 static void must(int holds, const char *what)
 {
@@ -981,6 +982,204 @@ static void heard_by_two(const uint8_t *tape, size_t tapelen, uint64_t tickets)
     printf("two masts: the longer reception opens, and the place is told where they part\n");
 }
 
+/* ---- cab against crusher ---- */
+
+/* what pairing looks at in a ticket */
+typedef struct { uint16_t truck; uint32_t tipped; } tipping;
+
+/* The plain bytes of a ticket for each, in form 1 and form 2 by turns; after second 43,199 in form 2 alone. */
+static opened_tape tape_tipped(const tipping *t, size_t n, uint8_t *plain)
+{
+    for (size_t i = 0; i < n; i++) {
+        ht_ticket ticket = timed((uint8_t)(i % 2 == 1 || t[i].tipped > 43199 ? 2 : 1), 0, t[i].tipped);
+        ticket.truck = t[i].truck;
+        must(ht_pack_ticket(ticket, plain + i * HT_TICKET_BYTES, HT_TICKET_BYTES).refused == 0, "a ticket does not pack");
+    }
+    return (opened_tape){plain, n * HT_TICKET_BYTES, 0};
+}
+
+/* the outputs, with numbers before and behind: the pairs, and what is left over on the first tape and on the second */
+static struct { uint32_t before[2], numbers[2 * HT_MOST_TICKETS + 4]; } outputs[3];
+
+static ht_paired pair_into(opened_tape first, opened_tape second, const size_t *room)
+{
+    memset(outputs, 0x5a, sizeof outputs);
+    return ht_pair_tapes(first.plain, first.bytes, second.plain, second.bytes, outputs[0].numbers, room[0], outputs[1].numbers, room[1],
+        outputs[2].numbers, room[2]);
+}
+
+static void must_be_written(size_t output, const uint32_t *numbers, size_t n)
+{
+    must(memcmp(outputs[output].numbers, numbers, n * sizeof *numbers) == 0, "ht_pair_tapes writes other numbers");
+    must_be_filled((const uint8_t *)outputs[output].before, sizeof outputs[output].before);
+    must_be_filled((const uint8_t *)(outputs[output].numbers + n), sizeof outputs[output].numbers - n * sizeof *numbers);
+}
+
+static void is_not_paired(opened_tape first, opened_tape second, const size_t *room, uint32_t refused)
+{
+    ht_paired p = pair_into(first, second, room);
+
+    must(p.refused == refused, "ht_pair_tapes is refused otherwise");
+    must(p.pairs == 0 && p.left_first == 0 && p.left_second == 0, "a refused ht_pair_tapes answers more than a number");
+    must_be_filled((const uint8_t *)outputs, sizeof outputs);
+}
+
+/* Two tapes must have these n pairs; the tickets in none of them are left over. */
+static void are_paired(opened_tape first, opened_tape second, const uint32_t *pairs, size_t n)
+{
+    static uint8_t in_pair[2][HT_MOST_TICKETS + 1];
+    static uint32_t left[2][HT_MOST_TICKETS];
+    const size_t tickets[2] = {first.bytes / HT_TICKET_BYTES, second.bytes / HT_TICKET_BYTES};
+    const uint32_t *const wanted[3] = {pairs, left[0], left[1]};
+    size_t count[3] = {2 * n, 0, 0}, room[3];
+
+    memset(in_pair, 0, sizeof in_pair);
+    for (size_t i = 0; i < 2 * n; i++)
+        in_pair[i % 2][pairs[i]] = 1;
+    for (size_t side = 0; side < 2; side++)
+        for (uint32_t position = 1; position <= tickets[side]; position++)
+            if (!in_pair[side][position])
+                left[side][count[1 + side]++] = position;
+
+    /* outputs of the numbers needed, and of three more */
+    for (size_t more = 0; more <= 3; more += 3) {
+        for (size_t i = 0; i < 3; i++)
+            room[i] = count[i] + more;
+        ht_paired p = pair_into(first, second, room);
+        must(p.refused == 0 && p.pairs == n && p.left_first == count[1] && p.left_second == count[2], "ht_pair_tapes answers otherwise");
+        for (size_t i = 0; i < 3; i++)
+            must_be_written(i, wanted[i], count[i]);
+    }
+
+    /* one output or more a number short, where it has any, or without room */
+    for (unsigned cut = 1; cut < 8; cut++)
+        for (size_t by = 0; by < 2; by++) {
+            int shorter = 0;
+            for (size_t i = 0; i < 3; i++) {
+                const int is_cut = cut >> i & 1 && count[i] > 0;
+                room[i] = !is_cut ? count[i] + by : by == 0 ? count[i] - 1 : 0;
+                shorter |= is_cut;
+            }
+            if (shorter)
+                is_not_paired(first, second, room, 6);
+        }
+}
+
+/* Two short tapes, and the pairs. */
+static const struct {
+    size_t first_tickets, second_tickets, pairs;
+    tipping first[6], second[6];
+    uint32_t numbers[12];
+} known_pairs[] = {
+    /* 120 seconds apart, either clock ahead, and 121; up to the last second of a shift */
+    {1, 1, 1, {{5, 1000}}, {{5, 1120}}, {1, 1}},
+    {1, 1, 1, {{5, 1120}}, {{5, 1000}}, {1, 1}},
+    {1, 1, 0, {{5, 1000}}, {{5, 1121}}, {0}},
+    {1, 1, 0, {{5, 1121}}, {{5, 1000}}, {0}},
+    {1, 1, 1, {{5, 0}}, {{5, 120}}, {1, 1}},
+    {1, 1, 0, {{5, 121}}, {{5, 0}}, {0}},
+    {1, 1, 1, {{1023, 86399}}, {{1023, 86279}}, {1, 1}},
+    {1, 1, 0, {{1023, 86278}}, {{1023, 86399}}, {0}},
+    /* another truck */
+    {1, 1, 0, {{5, 1000}}, {{6, 1000}}, {0}},
+    {1, 2, 1, {{1, 1000}}, {{1023, 1000}, {1, 1000}}, {1, 2}},
+    /* two that want one */
+    {2, 1, 1, {{5, 1000}, {5, 1010}}, {{5, 1010}}, {1, 1}},
+    {1, 2, 1, {{5, 1010}}, {{5, 900}, {5, 1010}}, {1, 1}},
+    {2, 1, 1, {{5, 800}, {5, 1010}}, {{5, 1010}}, {2, 1}},
+    {3, 2, 2, {{5, 1000}, {5, 1000}, {5, 1000}}, {{5, 1120}, {5, 1120}}, {1, 1, 2, 2}},
+    /* the first that is free, though another is nearer: so that as many as can be are paired */
+    {2, 2, 2, {{5, 1000}, {5, 1100}}, {{5, 900}, {5, 1010}}, {1, 1, 2, 2}},
+    {2, 3, 2, {{5, 1000}, {5, 1100}}, {{5, 880}, {5, 1000}, {5, 1100}}, {1, 1, 2, 2}},
+    {3, 3, 2, {{5, 1000}, {5, 2000}, {5, 3000}}, {{5, 1100}, {5, 1500}, {5, 2900}}, {1, 1, 3, 3}},
+    {2, 4, 2, {{5, 1000}, {5, 3000}}, {{5, 1000}, {5, 1500}, {5, 2000}, {5, 3120}}, {1, 1, 2, 4}},
+    /* equal times */
+    {3, 3, 3, {{5, 1000}, {5, 1000}, {5, 1000}}, {{5, 1000}, {5, 1000}, {5, 1000}}, {1, 1, 2, 2, 3, 3}},
+    {2, 3, 2, {{5, 1000}, {5, 1000}}, {{5, 880}, {5, 880}, {5, 880}}, {1, 1, 2, 2}},
+    /* several trucks: pairs in the first tape's order, and times that fall from one truck to another */
+    {3, 3, 3, {{5, 1000}, {6, 500}, {7, 900}}, {{7, 1000}, {6, 400}, {5, 1000}}, {1, 3, 2, 2, 3, 1}},
+    {4, 5, 3, {{5, 1000}, {6, 1000}, {5, 1200}, {6, 1300}}, {{6, 1100}, {6, 1200}, {5, 800}, {5, 1110}, {7, 1000}}, {1, 4, 2, 1, 4, 2}},
+    {6, 6, 3, {{1, 100}, {2, 100}, {1, 100}, {2, 300}, {3, 0}, {1, 101}}, {{3, 121}, {1, 220}, {2, 200}, {4, 0}, {1, 221}, {1, 300}},
+        {1, 2, 2, 3, 6, 5}},
+};
+
+/* Tapes of n tickets: those of a truck come every `trucks` tickets, and all times rise by `step` from `start` on. */
+static opened_tape regular(size_t n, size_t trucks, uint32_t start, uint32_t step, uint8_t *plain)
+{
+    static tipping t[HT_MOST_TICKETS + 1];
+
+    for (size_t i = 0; i < n; i++)
+        t[i] = (tipping){(uint16_t)(1 + i % trucks), start + (uint32_t)i * step};
+    return tape_tipped(t, n, plain);
+}
+
+static void pairing(void)
+{
+    static uint8_t one_plain[HT_MOST_PLAIN_BYTES + HT_TICKET_BYTES], other_plain[HT_MOST_PLAIN_BYTES], copies[2][HT_MOST_PLAIN_BYTES];
+    static uint32_t in_order[2 * HT_MOST_TICKETS];
+    const size_t most = HT_MOST_TICKETS, enough[3] = {2 * most, most, most}, none[3] = {0};
+
+    for (size_t i = 0; i < sizeof known_pairs / sizeof *known_pairs; i++) {
+        const opened_tape first = tape_tipped(known_pairs[i].first, known_pairs[i].first_tickets, one_plain);
+        const opened_tape second = tape_tipped(known_pairs[i].second, known_pairs[i].second_tickets, other_plain);
+        memcpy(copies[0], first.plain, first.bytes), memcpy(copies[1], second.plain, second.bytes);
+        are_paired(first, second, known_pairs[i].numbers, known_pairs[i].pairs);
+        must(memcmp(copies[0], first.plain, first.bytes) == 0 && memcmp(copies[1], second.plain, second.bytes) == 0, "a tape is written");
+    }
+
+    /* no tickets, on either tape and on both; and 5,000 of one truck on both */
+    for (uint32_t i = 0; i < 2 * most; i++)
+        in_order[i] = 1 + i / 2;
+    for (size_t trucks = 1; trucks <= 1023; trucks += 511) {
+        const opened_tape all = regular(most, trucks, 0, 8, one_plain), nothing = {other_plain, 0, 0};
+        are_paired(all, nothing, in_order, 0);
+        are_paired(nothing, all, in_order, 0);
+        are_paired(nothing, nothing, in_order, 0);
+        are_paired(all, all, in_order, most);
+        are_paired(all, regular(most, trucks, 120, 8, other_plain), in_order, most);
+        are_paired(regular(most, trucks, 120, 8, other_plain), all, in_order, most);
+        are_paired(all, regular(most - 1, trucks, 0, 8, other_plain), in_order, most - 1);
+        are_paired(all, regular(most, trucks, 40200, 0, other_plain), in_order, 0);
+        are_paired(regular(most, trucks, 40200, 0, other_plain), all, in_order, 0);
+    }
+    are_paired(regular(most, 1, 9, 0, one_plain), regular(most, 1, 9, 0, other_plain), in_order, most);
+
+    /* 121 seconds late, and 8 between two of the truck: the first ticket is left over, and each other is paired with the one before it */
+    for (uint32_t i = 0; i < 2 * (most - 1); i++)
+        in_order[i] = i % 2 == 0 ? i / 2 + 2 : i / 2 + 1;
+    are_paired(regular(most, 1, 0, 8, one_plain), regular(most, 1, 121, 8, other_plain), in_order, most - 1);
+
+    /* two tapes that are taken, and those that are refused: each with each, with room for everything and with none */
+    static uint8_t refused_plain[9][HT_MOST_PLAIN_BYTES + HT_TICKET_BYTES];
+    opened_tape tapes[] = {
+        regular(3, 2, 1000, 10, refused_plain[0]),
+        regular(most, 700, 0, 8, refused_plain[1]),
+        regular(most + 1, 700, 0, 8, refused_plain[2]), /* a ticket too many */
+        regular(3, 2, 1000, 10, refused_plain[3]),      /* a byte too few, below */
+        regular(3, 2, 1000, 10, refused_plain[4]),      /* the last ticket does not unpack */
+        tape_tipped((tipping[]){{5, 1000}, {6, 0}, {6, 9}, {5, 999}}, 4, refused_plain[5]),
+        regular(most, 1, 40200, 0, refused_plain[6]),   /* the last time falls by a second */
+        tape_tipped((tipping[]){{5, 1000}, {5, 0}, {5, 0}}, 3, refused_plain[7]), /* a time falls, and the last ticket does not unpack */
+        tape_tipped((tipping[]){{5, 1000}, {5, 0}, {5, 0}}, 3, refused_plain[8]), /* both, and a byte too few */
+    };
+    const uint32_t numbers[] = {0, 0, 2, 2, 8, 12, 12, 8, 2};
+    const size_t tapes_count = sizeof tapes / sizeof *tapes;
+    tapes[3].bytes--;
+    tapes[8].bytes--;
+    tape_tipped(&(tipping){1, 40199}, 1, refused_plain[6] + (most - 1) * HT_TICKET_BYTES);
+    refused_plain[4][3 * HT_TICKET_BYTES - 1] |= 1; /* a spare bit of form 1 */
+    refused_plain[7][3 * HT_TICKET_BYTES - 1] |= 1;
+    refused_plain[8][3 * HT_TICKET_BYTES - 1] |= 1;
+    for (size_t i = 0; i < tapes_count; i++)
+        for (size_t j = 0; j < tapes_count; j++) {
+            const uint32_t a = numbers[i], b = numbers[j], number = a == 0 ? b : b == 0 ? a : a < b ? a : b;
+            if (number != 0)
+                is_not_paired(tapes[i], tapes[j], enough, number);
+            is_not_paired(tapes[i], tapes[j], none, number == 0 ? 6 : number); /* 6 comes last */
+        }
+    printf("tickets of a truck tipped at most 120 seconds apart are paired, in tape order, and falling times are refused\n");
+}
+
 int main(void)
 {
     static const ht_ticket tickets[2] = {
@@ -1005,5 +1204,6 @@ int main(void)
     tags();
     receptions();
     heard_by_two(tape, n, 2);
+    pairing();
     return 0;
 }

@@ -14,9 +14,9 @@
  *
  * A call that is refused for lengths, phase or head gives no report. After a close or finish no word depends on a secret.
  *
- * Not run are the calls without a key on tickets, heads and opened bytes: packing, unpacking, moving, reading and counting trucks. The header
- * says of counting trucks that branches and addresses depend on the tickets, and nothing of the others. Nor are the calls on two
- * receptions, which are sealed bytes: the header says that branches depend on them.
+ * Not run are the calls without a key on tickets, heads and opened bytes: packing, unpacking, moving, reading, counting trucks and pairing. The
+ * header says of counting trucks and of pairing that branches and addresses depend on the tickets, and nothing of the others. Nor are the calls
+ * on two receptions, which are sealed bytes: the header says that branches depend on them.
  */
 #include "tapes.h"
 

@@ -3,9 +3,11 @@ use Prim.Native.Nat.{ℕ}
 use Rattle.calls.specs.Calls.{Reply, refused, done, Work}
 use Rattle.tape_model.specs.declared.Ticket.{Ticket}
 use Rattle.tape_model.specs.declared.Head.{Head}
+use Rattle.tape_model.specs.Ticket.{noTicket}
 use Rattle.tape_model.specs.Tape.{Totals}
 use Rattle.tape_model.specs.Reader.{Reading, ticket, atEnd}
 use Rattle.trucks.specs.Trucks.{TrucksOfTwo}
+use Rattle.pairing.specs.Pairing.{Counts}
 use Rattle.receptions.specs.Receptions.{PartingReply, refusedAt, notParted, Mast, firstMast, secondMast, Part}
 use Rattle.c_answers.specs.declared.HtAnswer.{HtAnswer}
 use Rattle.c_answers.specs.declared.HtWritten.{HtWritten}
@@ -17,6 +19,7 @@ use Rattle.c_answers.specs.declared.HtTruckCount.{HtTruckCount}
 use Rattle.c_answers.specs.declared.HtTruckCounts.{HtTruckCounts}
 use Rattle.c_answers.specs.declared.HtParted.{HtParted}
 use Rattle.c_answers.specs.declared.HtReception.{HtReception}
+use Rattle.c_answers.specs.declared.HtPaired.{HtPaired}
 
 -- `refused` is 0 where the call was done; else it is the number, and all that the call would answer is zeros (but for a reading's position, and the place beside 10)
 
@@ -32,10 +35,7 @@ unfoldable pub openedNumbers : Reply Totals → HtOpened
 openedNumbers (refused n) = record { refused = n; tickets = 0; net = 0 }
 openedNumbers (done totals) = record { refused = 0; tickets = totals .tickets; net = totals .net }
 
--- the zeros in place of a ticket, and of a head
-abbrev pub noTicket : Ticket
-noTicket = record { form = 0; truck = 0; shovel = 0; tip = 0; grade = 0; loaded = 0; tipped = 0; gross = 0; tare = 0 }
-
+-- the zeros in place of a head
 abbrev pub noHead : Head
 noHead = record { device = 0; shift = 0; sheet = 0 }
 
@@ -73,3 +73,7 @@ mastNumber secondMast = 2
 
 unfoldable pub partNumbers : Part → HtReception
 partNumbers part = record { mast = mastNumber (part .mast); bytes = part .bytes }
+
+unfoldable pub pairedNumbers : Reply Counts → HtPaired
+pairedNumbers (refused n) = record { refused = n; pairs = 0; «left_first» = 0; «left_second» = 0 }
+pairedNumbers (done n) = record { refused = 0; pairs = n .pairs; «left_first» = n .leftFirst; «left_second» = n .leftSecond }

@@ -2,6 +2,7 @@
 // reading's position stays, and 10 comes with its place. A part of a reception is of a call that is never refused.
 use calls::Answer;
 use calls::Written;
+use pairing::PairedTapes;
 use reader::ReadAt;
 use receptions::PartingAnswer;
 use tape_model::Head;
@@ -14,12 +15,13 @@ use trucks::TruckCount;
 use trucks::TruckCounts;
 ghost use mathlib.Core.Path.{_≡_};
 ghost use Rattle.calls.specs.Calls.{answerReply, writtenReply, leftUnchanged};
-ghost use Rattle.tape_model.specs.Ticket.{ticketReply, headReply};
+ghost use Rattle.tape_model.specs.Ticket.{noTicket, ticketReply, headReply};
 ghost use Rattle.tape_model.specs.Tape.{openedReply};
 ghost use Rattle.tape_model.specs.Reader.{nextReply};
 ghost use Rattle.trucks.specs.Words.{countReply, countsReply};
 ghost use Rattle.receptions.specs.Contracts.{partingReply};
-ghost use Rattle.c_answers.specs.Answers.{writtenNumbers, answerNumbers, openedNumbers, noTicket, noHead, ticketNumbers, headNumbers, readingNumbers, countNumbers, countsNumbers, partedNumbers};
+ghost use Rattle.pairing.specs.Contracts.{pairedReply};
+ghost use Rattle.c_answers.specs.Answers.{writtenNumbers, answerNumbers, openedNumbers, noHead, ticketNumbers, headNumbers, readingNumbers, countNumbers, countsNumbers, partedNumbers, pairedNumbers};
 
 #[repr(C)]
 pub struct HtWritten {
@@ -85,6 +87,14 @@ pub struct HtParted {
 pub struct HtReception {
     pub mast: u32,
     pub bytes: u64,
+}
+
+#[repr(C)]
+pub struct HtPaired {
+    pub refused: u32,
+    pub pairs: u64,
+    pub left_first: u64,
+    pub left_second: u64,
 }
 
 fn wide(number: u8) -> u32
@@ -277,6 +287,25 @@ pub fn parted(answer: PartingAnswer) -> HtParted
         PartingAnswer::NotParted => HtParted {
             refused: 0,
             place: 0,
+        },
+    }
+}
+
+pub fn paired(answer: PairedTapes) -> HtPaired
+    ensures { λ r. ⌜ r ≡ pairedNumbers (pairedReply answer) ⌝ }
+{
+    match answer {
+        PairedTapes::Refused(n) => HtPaired {
+            refused: wide(n),
+            pairs: 0,
+            left_first: 0,
+            left_second: 0,
+        },
+        PairedTapes::Done(pairs, left_first, left_second) => HtPaired {
+            refused: 0,
+            pairs: size(pairs),
+            left_first: size(left_first),
+            left_second: size(left_second),
         },
     }
 }

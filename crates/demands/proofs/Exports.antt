@@ -14,7 +14,7 @@ use Rattle.acorn_model.specs.Machine.{keyLength}
 use Rattle.acorn_model.specs.Message.{openRefusal}
 use Rattle.tape_model.specs.declared.Ticket.{Ticket}
 use Rattle.tape_model.specs.declared.Head.{Head}
-use Rattle.tape_model.specs.Ticket.{ticketLength, packTicket, packTicketInto, unpackTicket, headLength, headRule, packHead, packHeadInto, unpackHead}
+use Rattle.tape_model.specs.Ticket.{noTicket, ticketLength, packTicket, packTicketInto, unpackTicket, headLength, headRule, packHead, packHeadInto, unpackHead}
 use Rattle.tape_model.specs.Tape.{ticketLimit, tapeOf, plainTickets, openTape}
 use Rattle.tape_model.specs.Writer.{WriterCall, freshWriter, writerCall}
 use Rattle.tape_model.specs.WriterLists.{writerLog}
@@ -27,7 +27,7 @@ use Rattle.call_lists.proofs.WriterEvery.{every-tape-written}
 use Rattle.reader.proofs.Reading.{Ahead, tickets-ahead, opened-tickets}
 use Rattle.c_answers.specs.declared.HtWritten.{HtWritten}
 use Rattle.c_answers.specs.declared.HtReading.{HtReading}
-use Rattle.c_answers.specs.Answers.{noTicket, writtenNumbers, openedNumbers, ticketNumbers, headNumbers, readingNumbers}
+use Rattle.c_answers.specs.Answers.{writtenNumbers, openedNumbers, ticketNumbers, headNumbers, readingNumbers}
 use Rattle.haul_tape.specs.Contracts.{ResultSeen, readNumbers}
 use Rattle.demands.specs.Refusals.{AnsweredBy}
 use Rattle.demands.specs.Exports.{MessageExports, PackingExports, ReadCalls, noReading, aReading, readInTurn, ExportsComeBack, TapeExports, ExportDemand}

@@ -18,7 +18,7 @@ use Rattle.acorn_model.specs.Laws.{ByPaper, WithinLimits}
 use Rattle.tape_model.specs.declared.Ticket.{Ticket}
 use Rattle.tape_model.specs.declared.Head.{Head}
 use Rattle.tape_model.specs.declared.WriterPhase.the-variants.{Closed}
-use Rattle.tape_model.specs.Ticket.{ticketLength, ticketRule, packTicketRefusal, unpackTicketRefusal, packTicket, headLength, headRule, packHeadRefusal, unpackHeadRefusal, packHead}
+use Rattle.tape_model.specs.Ticket.{noTicket, ticketLength, ticketRule, packTicketRefusal, unpackTicketRefusal, packTicket, headLength, headRule, packHeadRefusal, unpackHeadRefusal, packHead}
 use Rattle.tape_model.specs.Tape.{ticketLimit, packTickets, tapeOf, totalNet, openTapeRefusal}
 use Rattle.tape_model.specs.Writer.{WriterCall, freshWriter, writerCall}
 use Rattle.tape_model.specs.Writer as plain
@@ -35,7 +35,7 @@ use Rattle.c_answers.specs.declared.HtOpened.{HtOpened}
 use Rattle.c_answers.specs.declared.HtUnpackedTicket.{HtUnpackedTicket}
 use Rattle.c_answers.specs.declared.HtUnpackedHead.{HtUnpackedHead}
 use Rattle.c_answers.specs.declared.HtReading.{HtReading}
-use Rattle.c_answers.specs.Answers.{writtenNumbers, answerNumbers, openedNumbers, ticketNumbers, headNumbers, noTicket}
+use Rattle.c_answers.specs.Answers.{writtenNumbers, answerNumbers, openedNumbers, ticketNumbers, headNumbers}
 use Rattle.haul_tape.specs.Contracts.{SessionSeen, WriterSeen, SealSeen, OpenSeen, PackTicketSeen, UnpackTicketSeen, PackHeadSeen, UnpackHeadSeen, OpenTapeSeen, ReadTicketSeen, ListTapeSeen}
 use Rattle.demands.specs.SessionFacts.{SessionFacts, CutsAgree}
 use Rattle.demands.specs.Writers.{WriterFacts}

@@ -10,13 +10,13 @@ use lib.Dec.{eqb}
 use borrow.Author.Tests.{le-ltb}
 use Rattle.calls.specs.Calls.{_if_else_, AreBytes, Reply, refused, done, accepted, unlessRefused, replyOf, resultOf, writtenOver}
 use Rattle.tape_model.specs.declared.Ticket.{Ticket}
-use Rattle.tape_model.specs.Ticket.{ticketLength, ticketOf, inForm, valuesRule, ticketRule, packTicket, packTicketInto, ticketValuesIn, unpackTicket}
+use Rattle.tape_model.specs.Ticket.{noTicket, ticketLength, ticketOf, inForm, valuesRule, ticketRule, packTicket, packTicketInto, ticketValuesIn, unpackTicket}
 use Rattle.tape_model.proofs.Tickets.{ticket-inverse}
 use Rattle.forms.specs.Move.{moveTicket}
 use Rattle.forms.proofs.Moving.{given, move-laws}
 use Rattle.c_answers.specs.declared.HtUnpackedTicket.{HtUnpackedTicket}
 use Rattle.c_answers.specs.declared.HtWritten.{HtWritten}
-use Rattle.c_answers.specs.Answers.{noTicket, writtenNumbers, ticketNumbers}
+use Rattle.c_answers.specs.Answers.{writtenNumbers, ticketNumbers}
 use Rattle.haul_tape.specs.Contracts.{UnpackTicketSeen, MoveTicketSeen, PackTicketSeen}
 use Rattle.haul_tape.specs.Forms.{MoveAnswered, MoveExports}
 

@@ -22,13 +22,15 @@ use Rattle.c_answers.specs.declared.HtTruckCount.{HtTruckCount}
 use Rattle.c_answers.specs.declared.HtTruckCounts.{HtTruckCounts}
 use Rattle.c_answers.specs.declared.HtParted.{HtParted}
 use Rattle.c_answers.specs.declared.HtReception.{HtReception}
-use Rattle.c_answers.specs.Answers.{writtenNumbers, answerNumbers, openedNumbers, ticketNumbers, headNumbers, readingNumbers, countNumbers, countsNumbers, partedNumbers, partNumbers}
+use Rattle.c_answers.specs.declared.HtPaired.{HtPaired}
+use Rattle.c_answers.specs.Answers.{writtenNumbers, answerNumbers, openedNumbers, ticketNumbers, headNumbers, readingNumbers, countNumbers, countsNumbers, partedNumbers, partNumbers, pairedNumbers}
 use Rattle.reader.specs.Contracts.{readerAt}
 use Rattle.session.specs.Contracts.{wrappedOutcome}
 use Rattle.session.specs.Words.{machineIn, wordsFor}
 use Rattle.trucks.specs.Trucks.{NumberSet, plainTrucks, plainTrucksOfTwo, plainTruckSet}
 use Rattle.trucks.specs.Words.{setWords}
 use Rattle.receptions.specs.Receptions.{parting, longer}
+use Rattle.pairing.specs.Pairing.{Outputs, pairTapes}
 use Rattle.forms.specs.Move.{moveTicket}
 use Rattle.tape_writer.specs.Contracts.{wrappedWriterOutcome}
 use Rattle.tape_writer.specs.Words.{plainWriterIn, writerWordsFor}
@@ -116,3 +118,9 @@ setAfter (done s) words = setWords s
 
 abbrev pub TruckSetSeen : (plain words : List ℕ) → HtTruckCount → List ℕ → Type 0
 TruckSetSeen plain words r after = (r ≡ countNumbers (plainTrucks plain)) × (after ≡ setAfter (plainTruckSet plain) words)
+
+-- ## Calls with three outputs
+
+-- by the tapes' plain bytes and the outputs as they stood, and by its answer r and the outputs `after`
+abbrev pub PairTapesSeen : (first second : List ℕ) → Outputs → HtPaired → Outputs → Type 0
+PairTapesSeen first second out r after = (r ≡ pairedNumbers (pairTapes first second out .answer)) × (after ≡ pairTapes first second out .out)

@@ -7,10 +7,9 @@ use Prim.Native.Nat.{ℕ, _≤_, _<_}
 use lib.ListN.{length}
 use Rattle.calls.specs.Calls.{AreBytes, writtenOver}
 use Rattle.tape_model.specs.declared.Ticket.{Ticket}
-use Rattle.tape_model.specs.Ticket.{ticketLength, inForm, ticketRule, packTicket}
+use Rattle.tape_model.specs.Ticket.{ticketLength, noTicket, inForm, ticketRule, packTicket}
 use Rattle.c_answers.specs.declared.HtUnpackedTicket.{HtUnpackedTicket}
 use Rattle.c_answers.specs.declared.HtWritten.{HtWritten}
-use Rattle.c_answers.specs.Answers.{noTicket}
 use Rattle.haul_tape.specs.Contracts.{UnpackTicketSeen, MoveTicketSeen, PackTicketSeen}
 
 -- r: what was answered of moving t to this form

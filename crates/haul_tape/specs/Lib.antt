@@ -2,3 +2,4 @@ pub mod Contracts
 pub mod Trucks
 pub mod Receptions
 pub mod Forms
+pub mod Pairing

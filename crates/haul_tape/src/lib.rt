@@ -3,6 +3,7 @@
 use acorn_model::Kind;
 use c_answers::HtAnswer;
 use c_answers::HtOpened;
+use c_answers::HtPaired;
 use c_answers::HtParted;
 use c_answers::HtReading;
 use c_answers::HtReception;
@@ -14,6 +15,7 @@ use c_answers::HtWritten;
 use c_answers::answered;
 use c_answers::left_unchanged;
 use c_answers::opened;
+use c_answers::paired;
 use c_answers::parted;
 use c_answers::reading;
 use c_answers::truck_count;
@@ -38,8 +40,9 @@ ghost use Rattle.session.specs.Contracts.{sessionOutcome};
 ghost use Rattle.session.specs.Words.{wordsFor};
 ghost use Rattle.tape_writer.specs.Contracts as tape;
 ghost use Rattle.tape_writer.specs.Words.{writerWordsFor};
+ghost use Rattle.pairing.specs.Contracts.{outputs};
 ghost use Rattle.c_answers.specs.Answers.{answerNumbers};
-ghost use Rattle.haul_tape.specs.Contracts.{wordsAfter, SessionSeen, WriterSeen, SealSeen, OpenSeen, PackTicketSeen, UnpackTicketSeen, MoveTicketSeen, PackHeadSeen, UnpackHeadSeen, OpenTapeSeen, ReadTicketSeen, ListTapeSeen, TrucksSeen, TrucksOfTwoSeen, TruckSetSeen, PartingSeen, LongerSeen};
+ghost use Rattle.haul_tape.specs.Contracts.{wordsAfter, SessionSeen, WriterSeen, SealSeen, OpenSeen, PackTicketSeen, UnpackTicketSeen, MoveTicketSeen, PackHeadSeen, UnpackHeadSeen, OpenTapeSeen, ReadTicketSeen, ListTapeSeen, TrucksSeen, TrucksOfTwoSeen, TruckSetSeen, PartingSeen, LongerSeen, PairTapesSeen};
 
 // ---- whole messages ----
 
@@ -363,4 +366,19 @@ pub extern "C" fn ht_longer<'a>(first: &'a [u8], second: &'a [u8]) -> HtReceptio
         mast: if first.len() < bytes { 2 } else { 1 },
         bytes: bytes as u64,
     }
+}
+
+// ---- cab against crusher ----
+
+#[no_mangle]
+pub extern "C" fn ht_pair_tapes(
+    first: &[u8],
+    second: &[u8],
+    pairs: &mut [u32],
+    left_first: &mut [u32],
+    left_second: &mut [u32],
+) -> HtPaired
+    ensures { λ r. ⌜ PairTapesSeen (now (first .entry)) (now (second .entry)) (outputs (now (pairs .entry)) (now («left_first» .entry)) (now («left_second» .entry))) r (outputs (now (pairs .exit)) (now («left_first» .exit)) (now («left_second» .exit))) ⌝ }
+{
+    paired(pairing::pair_tapes(first, second, pairs, left_first, left_second))
 }

@@ -72,6 +72,10 @@ ticketOf vs =
       tare = getD vs 8 0;
     }
 
+-- the zeros in place of a ticket, where there is none
+abbrev pub noTicket : Ticket
+noTicket = record { form = 0; truck = 0; shovel = 0; tip = 0; grade = 0; loaded = 0; tipped = 0; gross = 0; tare = 0 }
+
 -- the ticket with another form, every other field kept
 abbrev pub inForm : ℕ → Ticket → Ticket
 inForm form t =

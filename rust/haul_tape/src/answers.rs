@@ -1,6 +1,6 @@
 //! The answers of the exports as results.
 
-use crate::exports::{Answer, Opened, Parted, TruckCount, TruckCounts};
+use crate::exports::{Answer, Opened, Paired, Parted, TruckCount, TruckCounts};
 use crate::exports::{UnpackedHead, UnpackedTicket, Written};
 use crate::{Done, Head, Refusal, Ticket};
 
@@ -71,6 +71,17 @@ impl TruckCounts {
             both: self.both,
             either: self.either,
             just_one: self.just_one,
+        })
+    }
+}
+
+impl Paired {
+    pub(crate) fn into_result(self) -> Result<crate::Paired, Refusal> {
+        Refusal::check(self.refused)?;
+        Ok(crate::Paired {
+            pairs: self.pairs as usize,
+            left_first: self.left_first as usize,
+            left_second: self.left_second as usize,
         })
     }
 }

@@ -139,6 +139,21 @@ pub struct Reception {
     pub bytes: u64,
 }
 
+/// The answer of pairing the tickets of two tapes.
+#[repr(C)]
+#[derive(Clone, Copy, PartialEq, Eq, Debug)]
+#[must_use = "the call may have been refused"]
+pub struct Paired {
+    /// 0, or the number that sent the call back.
+    pub refused: u32,
+    /// How many pairs.
+    pub pairs: u64,
+    /// How many tickets are left over on the first tape.
+    pub left_first: u64,
+    /// How many tickets are left over on the second tape.
+    pub left_second: u64,
+}
+
 /// A session of either kind. A drop puts zeros in place of its words.
 #[repr(C)]
 pub struct Session {
@@ -192,6 +207,9 @@ extern "C" {
 
     fn ht_parting(first: *const u8, firstlen: usize, second: *const u8, secondlen: usize) -> Parted;
     fn ht_longer(first: *const u8, firstlen: usize, second: *const u8, secondlen: usize) -> Reception;
+
+    fn ht_pair_tapes(first: *const u8, firstlen: usize, second: *const u8, secondlen: usize, pairs: *mut u32, pairslen: usize,
+        left_first: *mut u32, left_firstlen: usize, left_second: *mut u32, left_secondlen: usize) -> Paired;
 }
 
 /// Puts zeros in place of words, by writes that the compiler may not leave out although nobody
@@ -538,4 +556,30 @@ pub fn parting(first: &[u8], second: &[u8]) -> Parted {
 pub fn longer(first: &[u8], second: &[u8]) -> Reception {
     // SAFETY: see the module's text.
     unsafe { ht_longer(first.as_ptr(), first.len(), second.as_ptr(), second.len()) }
+}
+
+/// Pairs the tickets of two opened tapes and writes positions, counted from 1: two numbers a pair,
+/// and those of the tickets left over. 2, 8, 12, 6.
+pub fn pair_tapes(
+    first: &[u8],
+    second: &[u8],
+    pairs: &mut [u32],
+    left_first: &mut [u32],
+    left_second: &mut [u32],
+) -> Paired {
+    // SAFETY: see the module's text.
+    unsafe {
+        ht_pair_tapes(
+            first.as_ptr(),
+            first.len(),
+            second.as_ptr(),
+            second.len(),
+            pairs.as_mut_ptr(),
+            pairs.len(),
+            left_first.as_mut_ptr(),
+            left_first.len(),
+            left_second.as_mut_ptr(),
+            left_second.len(),
+        )
+    }
 }

@@ -5,8 +5,9 @@
 //! between form 1 and form 2, which is for shifts of a whole day. [`trucks()`] and [`trucks_of_two`]
 //! count the trucks on opened tapes, and [`truck_set_of`] gives them as a set of bits. Where two masts
 //! heard one tape, [`parting`] finds the byte in which their receptions part, and [`longer`] hands
-//! back the longer one. [`message`] seals and opens byte messages whole; [`Sealing`] and [`Checking`]
-//! take them in pieces. A call that is sent back says why by a [`Refusal`].
+//! back the longer one. [`pair_tapes`] pairs the tickets of two opened tapes, the cab's and the
+//! crusher's, by truck and tipping time. [`message`] seals and opens byte messages whole; [`Sealing`]
+//! and [`Checking`] take them in pieces. A call that is sent back says why by a [`Refusal`].
 //!
 //! ```
 //! use haul_tape::{open_tape, Head, Reader, Refusal, Ticket, Writer};
@@ -66,7 +67,8 @@
 //! The crate needs `core` alone and has no dependencies. The feature `alloc`, on unless the
 //! dependency says `default-features = false`, adds the calls that answer a `Vec` or `String`:
 //! `message::seal_to_vec`, `message::open_to_vec`, `message::seal_tag_to_vec`,
-//! `message::open_tag_to_vec` and `listing_to_string`. There is no other feature.
+//! `message::open_tag_to_vec`, `listing_to_string` and `pair_tapes_to_vecs`. There is no other
+//! feature.
 //!
 //! On Linux `core` as it comes refers to the unwinder. A program without `std` links there when it
 //! is optimized with `panic = "abort"` and `lto = true`; a static library, optimized with
@@ -93,6 +95,7 @@ mod answers;
 #[allow(unsafe_code)]
 pub mod exports;
 pub mod message;
+mod pairing;
 mod receptions;
 mod refusal;
 mod session;
@@ -100,6 +103,9 @@ mod tape;
 mod ticket;
 mod trucks;
 
+pub use pairing::{pair_tapes, Paired};
+#[cfg(feature = "alloc")]
+pub use pairing::{pair_tapes_to_vecs, Pairing};
 pub use receptions::{longer, parting, Parted};
 pub use refusal::Refusal;
 pub use session::{Checking, Done, Sealing};

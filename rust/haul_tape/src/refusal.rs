@@ -4,8 +4,9 @@ use core::fmt;
 /// Why a call was sent back.
 ///
 /// Where several apply, the one with the smallest number is given; but [`Refusal::TagLength`], 9,
-/// comes right after [`Refusal::Phase`], 1. A refused call changes nothing, neither session nor
-/// writer nor output; but [`Refusal::Tag`] closes a [`Checking`] session.
+/// comes right after [`Refusal::Phase`], 1, and in [`pair_tapes`](crate::pair_tapes)
+/// [`Refusal::Output`], 6, comes after [`Refusal::TimesFall`], 12. A refused call changes nothing,
+/// neither session nor writer nor output; but [`Refusal::Tag`] closes a [`Checking`] session.
 ///
 /// Later papers may add numbers, so a `match` needs an arm for the others.
 ///
@@ -36,7 +37,7 @@ pub enum Refusal {
     Ticket = 4,
     /// 5: more than 65,536 bytes of data, or of text; a 5,001st ticket.
     Limit = 5,
-    /// 6: the output is too short.
+    /// 6: the output is too short, or one of several is.
     Output = 6,
     /// 7: the tag differs.
     Tag = 7,
@@ -48,6 +49,8 @@ pub enum Refusal {
     Parted = 10,
     /// 11: a ticket of form 2 that is tipped after second 43,199 is asked for in form 1.
     TooLate = 11,
+    /// 12: a truck's tipped times on a tape to be paired fall.
+    TimesFall = 12,
 }
 
 impl Refusal {
@@ -81,6 +84,7 @@ impl Refusal {
             9 => Refusal::TagLength,
             10 => Refusal::Parted,
             11 => Refusal::TooLate,
+            12 => Refusal::TimesFall,
             _ => return None,
         })
     }
@@ -102,6 +106,7 @@ impl fmt::Display for Refusal {
             Refusal::TagLength => "the length asked for a tag is not 8 to 16 bytes",
             Refusal::Parted => "two receptions part",
             Refusal::TooLate => "a ticket is tipped too late for form 1",
+            Refusal::TimesFall => "a truck's tipped times fall",
         };
         write!(f, "{reason} (refusal {})", self.number())
     }

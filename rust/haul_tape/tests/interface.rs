@@ -1,8 +1,9 @@
 //! What a caller may rely on beside the library's own answers.
 
-use haul_tape::{exports, listing, longer, message, open_tape, parting};
+use haul_tape::{exports, listing, longer, message, open_tape, pair_tapes, parting};
 use haul_tape::{truck_set_of, trucks, trucks_of_two};
-use haul_tape::{Checking, Head, Parted, Reader, Refusal, Sealing, Ticket, TruckCounts, Writer};
+use haul_tape::{Checking, Head, Paired, Parted, Reader, Refusal, Sealing, Ticket};
+use haul_tape::{TruckCounts, Writer};
 use std::error::Error;
 
 const HEAD: Head = Head {
@@ -810,9 +811,194 @@ fn partings_as_errors() {
     assert_eq!(format!("{parted:?}"), "Parted { place: 2 }");
 }
 
+/// The plain bytes of a tape whose tickets have these trucks and tipped times; every second ticket
+/// has form 2, and so has one tipped after second 43,199.
+fn tipped(tickets: &[(u16, u32)]) -> Vec<u8> {
+    let packed = |(i, &(truck, tipped)): (usize, &(u16, u32))| {
+        let form = if i % 2 == 1 || tipped > 43_199 { 2 } else { 1 };
+        let ticket = Ticket {
+            truck,
+            ..timed(form, 0, tipped)
+        };
+        ticket.pack().unwrap()
+    };
+    tickets.iter().enumerate().flat_map(packed).collect()
+}
+
+/// Positions, from 1, of the tickets of a tape that are in none of the pairs.
+fn left_over(plain: &[u8], in_pairs: impl Iterator<Item = u32>) -> Vec<u32> {
+    let mut left: Vec<u32> = (1..).take(plain.len() / 13).collect();
+    for position in in_pairs {
+        left.retain(|&other| other != position);
+    }
+    left
+}
+
+/// Two tapes have these pairs: with outputs just so long, longer, and each too short.
+#[track_caller]
+fn paired(first: &[u8], second: &[u8], pairs: &[[u32; 2]]) {
+    let left_first = left_over(first, pairs.iter().map(|pair| pair[0]));
+    let left_second = left_over(second, pairs.iter().map(|pair| pair[1]));
+    let lengths = [pairs.len(), left_first.len(), left_second.len()];
+    let outputs =
+        |[pairs, first, second]: [usize; 3]| (vec![[7; 2]; pairs], vec![7; first], vec![7; second]);
+    for more in [0, 1, 3] {
+        let mut out = outputs(lengths.map(|length| length + more));
+        let answer = pair_tapes(first, second, &mut out.0, &mut out.1, &mut out.2);
+        let wanted = Paired {
+            pairs: lengths[0],
+            left_first: lengths[1],
+            left_second: lengths[2],
+        };
+        assert_eq!(answer, Ok(wanted));
+        assert_eq!(out.0, [pairs, &vec![[7; 2]; more]].concat());
+        assert_eq!(out.1, [left_first.clone(), vec![7; more]].concat());
+        assert_eq!(out.2, [left_second.clone(), vec![7; more]].concat());
+    }
+    for short in (0..3).filter(|&short| lengths[short] > 0) {
+        let mut room = lengths.map(|length| length + 1);
+        room[short] -= 2;
+        let mut out = outputs(room);
+        let answer = pair_tapes(first, second, &mut out.0, &mut out.1, &mut out.2);
+        assert_eq!(answer, Err(Refusal::Output));
+        assert_eq!(out, outputs(room));
+    }
+    if !pairs.is_empty() {
+        // the library counts numbers, and one may be missing of a pair
+        let mut numbers = vec![7; 2 * pairs.len() - 1];
+        let (_, mut left_first, mut left_second) = outputs(lengths);
+        let left = (&mut left_first, &mut left_second);
+        let answer = exports::pair_tapes(first, second, &mut numbers, left.0, left.1);
+        assert_eq!(answer.refused, 6);
+        assert!(numbers.iter().all(|&number| number == 7));
+    }
+    #[cfg(feature = "alloc")]
+    {
+        let pairing = haul_tape::pair_tapes_to_vecs(first, second).unwrap();
+        assert_eq!(pairing.pairs, pairs);
+        assert_eq!(pairing.left_first, left_first);
+        assert_eq!(pairing.left_second, left_second);
+    }
+}
+
+/// Tickets of one truck are paired up to 120 seconds apart, whichever clock is ahead.
+#[test]
+fn pairs_by_truck_and_time() {
+    for (one, other, are) in [
+        (1_000, 1_000, true),
+        (1_000, 1_120, true),
+        (1_000, 1_121, false),
+        (0, 120, true),
+        (0, 121, false),
+        (43_199, 43_319, true),
+        (86_279, 86_399, true),
+        (86_278, 86_399, false),
+    ] {
+        let (one, other) = (tipped(&[(5, one)]), tipped(&[(5, other)]));
+        let pairs: &[[u32; 2]] = if are { &[[1, 1]] } else { &[] };
+        paired(&one, &other, pairs);
+        paired(&other, &one, pairs);
+    }
+    paired(&tipped(&[(5, 1_000)]), &tipped(&[(6, 1_000)]), &[]);
+    paired(&[], &[], &[]);
+    let tape = tipped(&[(1, 100), (1_023, 100), (1, 100)]);
+    paired(&tape, &[], &[]);
+    paired(&[], &tape, &[]);
+    paired(&tape, &tape, &[[1, 1], [2, 2], [3, 3]]);
+}
+
+/// The first tape's tickets, in tape order, take the free partner that comes first on the second.
+#[test]
+fn pairs_in_tape_order() {
+    let one = tipped(&[(5, 1_010)]);
+    let two = tipped(&[(5, 1_000), (5, 1_010)]);
+    paired(&two, &one, &[[1, 1]]);
+    paired(&one, &two, &[[1, 1]]);
+    let equal = tipped(&[(5, 1_000); 3]);
+    paired(&equal, &tipped(&[(5, 880); 2]), &[[1, 1], [2, 2]]);
+    // a nearer partner comes behind, and taking it would leave two without one
+    let first = tipped(&[(5, 1_000), (5, 1_100)]);
+    let second = tipped(&[(5, 900), (5, 1_010)]);
+    paired(&first, &second, &[[1, 1], [2, 2]]);
+    // times may fall from one truck to another
+    let first = tipped(&[(5, 1_000), (6, 500), (7, 900), (5, 1_300)]);
+    let second = tipped(&[(7, 1_000), (6, 400), (5, 700), (5, 1_000)]);
+    paired(&first, &second, &[[1, 4], [2, 2], [3, 1]]);
+    paired(&second, &first, &[[1, 3], [2, 2], [4, 1]]);
+}
+
+/// As many tickets as a tape holds, all of one truck or of many.
+#[test]
+fn pairs_of_the_longest_tapes() {
+    for trucks in [1, 1_023] {
+        let tape = |start: u32, tickets: u32| {
+            let tickets = (0..tickets).map(|i| (1 + (i % trucks) as u16, start + 8 * i));
+            tipped(&tickets.collect::<Vec<_>>())
+        };
+        let all: Vec<[u32; 2]> = (1..=5_000).map(|i| [i, i]).collect();
+        paired(&tape(0, 5_000), &tape(120, 5_000), &all);
+        paired(&tape(120, 5_000), &tape(0, 5_000), &all);
+        paired(&tape(0, 4_999), &tape(0, 5_000), &all[..4_999]);
+        paired(&tape(0, 5_000), &tape(46_000, 5_000), &[]);
+    }
+}
+
+/// 2, 8 and 12 are each tried on both tapes before the next, and 6 comes last; no output is written.
+#[test]
+fn tapes_that_are_not_paired() {
+    let right = tipped(&[(5, 1_000), (6, 500), (5, 1_000)]);
+    let falling = tipped(&[(5, 1_000), (6, 500), (5, 999)]);
+    let mut bad = falling.clone();
+    bad[38] |= 1;
+    let long = tipped(&[(5, 1_000); 5_001]);
+    let tapes = [
+        (&right[..], None),
+        (&falling, Some(Refusal::TimesFall)),
+        (&bad, Some(Refusal::Unpack)),
+        (&bad[..38], Some(Refusal::Size)),
+        (&right[..12], Some(Refusal::Size)),
+        (&long, Some(Refusal::Size)),
+        (&long[..64_999], Some(Refusal::Size)),
+    ];
+    for (first, one) in tapes {
+        for (second, other) in tapes {
+            let smaller = [one, other]
+                .into_iter()
+                .flatten()
+                .min_by_key(|refusal| refusal.number());
+            for room in [0, 3] {
+                let mut out = (vec![[7; 2]; room], vec![7; room], vec![7; room]);
+                let before = out.clone();
+                let refusal = match smaller {
+                    Some(refusal) => refusal,
+                    None if room == 0 => Refusal::Output,
+                    None => continue,
+                };
+                let answer = pair_tapes(first, second, &mut out.0, &mut out.1, &mut out.2);
+                assert_eq!(answer, Err(refusal));
+                let pairs = out.0.as_flattened_mut();
+                let answer = exports::pair_tapes(first, second, pairs, &mut out.1, &mut out.2);
+                let wanted = exports::Paired {
+                    refused: u32::from(refusal.number()),
+                    pairs: 0,
+                    left_first: 0,
+                    left_second: 0,
+                };
+                assert_eq!(answer, wanted);
+                assert_eq!(out, before);
+            }
+            #[cfg(feature = "alloc")]
+            {
+                let answer = haul_tape::pair_tapes_to_vecs(first, second);
+                assert_eq!(answer.err(), smaller);
+            }
+        }
+    }
+}
+
 #[test]
 fn numbers_of_refusals() {
-    for number in 1..=11 {
+    for number in 1..=12 {
         let refusal = Refusal::from_number(number).unwrap();
         assert_eq!(u32::from(refusal.number()), number);
         let error: &dyn Error = &refusal;
@@ -822,7 +1008,8 @@ fn numbers_of_refusals() {
     assert_eq!(Refusal::from_number(9), Some(Refusal::TagLength));
     assert_eq!(Refusal::from_number(10), Some(Refusal::Parted));
     assert_eq!(Refusal::from_number(11), Some(Refusal::TooLate));
-    assert_eq!(Refusal::from_number(12), None);
+    assert_eq!(Refusal::from_number(12), Some(Refusal::TimesFall));
+    assert_eq!(Refusal::from_number(13), None);
 }
 
 /// What is secret, and what was opened, is not shown.
@@ -861,6 +1048,8 @@ fn sessions_are_plain_words() {
     sendable::<exports::Parted>(16);
     sendable::<exports::Reception>(16);
     sendable::<Parted>(8);
+    sendable::<exports::Paired>(32);
+    sendable::<Paired>(24);
 }
 
 /// A text over the limit is refused before a vector of its length is made.

@@ -4,6 +4,7 @@
 use haul_tape::exports::{self, Answer, TruckCount, Written};
 use haul_tape::{Head, Reader, Refusal, Ticket};
 use haul_tape_twin::machine::Done;
+use haul_tape_twin::pairing::{self, Paired, Pairing};
 use haul_tape_twin::reader::{self, Next};
 use haul_tape_twin::receptions::{self, Part, Parted};
 use haul_tape_twin::{forms, listing, message, tape, ticket, trucks};
@@ -503,4 +504,128 @@ pub fn longer(first: &[u8], second: &[u8]) -> Part {
     let twin = receptions::longer(first, second).as_ptr_range();
     assert_eq!(handed_back, twin, "the buffer that is handed back");
     ran.answer.expect("it is never refused")
+}
+
+/// An output of numbers before a call: none is a position, and all differ.
+pub fn number_pattern(length: usize) -> Vec<u32> {
+    (0..length as u32).map(|i| 0xC0DE_0000 + 7 * i).collect()
+}
+
+/// Numbers that stand before and behind an output, and do not belong to it.
+const MARGIN: usize = 3;
+
+/// Pairs the tickets of two opened tapes, into outputs with room for so many numbers: the pairs, and
+/// what is left over on the first tape and on the second. Answers the counts and the outputs after
+/// the call. A refused call must leave the outputs, and a call that is done must leave what stands
+/// behind its numbers. With room for whole pairs the Rust call is made, too.
+#[track_caller]
+pub fn pair_tapes(
+    first: &[u8],
+    second: &[u8],
+    rooms: [usize; 3],
+) -> (Result<Paired, u8>, [Vec<u32>; 3]) {
+    let mut twin_outputs = rooms.map(number_pattern);
+    let [pairs, left_first, left_second] = &mut twin_outputs;
+    let twin = pairing::pair_tapes(first, second, pairs, left_first, left_second);
+    let twin_counts = twin.map(|paired| [paired.pairs, paired.left_first, paired.left_second]);
+
+    let lent = rooms.map(|room| number_pattern(room + 2 * MARGIN));
+    let mut outputs = lent.clone();
+    let [pairs, left_first, left_second] = &mut outputs;
+    let ran = agree(
+        "pair tapes",
+        &[first, second],
+        0,
+        |_| {
+            let paired = exports::pair_tapes(
+                first,
+                second,
+                &mut pairs[MARGIN..][..rooms[0]],
+                &mut left_first[MARGIN..][..rooms[1]],
+                &mut left_second[MARGIN..][..rooms[2]],
+            );
+            let counts = [paired.pairs, paired.left_first, paired.left_second];
+            if paired.refused == 0 {
+                return Ok(counts.map(|count| count as usize));
+            }
+            assert_eq!(counts, [0; 3], "beside a refusal");
+            Err(u8::try_from(paired.refused).expect("a number of document 02"))
+        },
+        |_| twin_counts,
+    );
+    let written = match ran.answer {
+        Ok([pairs, left_first, left_second]) => [2 * pairs, left_first, left_second],
+        Err(_) => [0; 3],
+    };
+    for (which, name) in ["pairs", "left_first", "left_second"].iter().enumerate() {
+        let (before, after) = (&lent[which], &outputs[which]);
+        let (start, behind) = (MARGIN, MARGIN + written[which]);
+        assert_eq!(after[..start], before[..start], "before {name}");
+        assert_eq!(after[behind..], before[behind..], "behind {name}");
+        let (twin, written) = (&twin_outputs[which], written[which]);
+        assert_eq!(after[start..behind], twin[..written], "{name}");
+    }
+
+    if rooms[0].is_multiple_of(2) {
+        let mut outputs = rooms.map(number_pattern);
+        let [pairs, left_first, left_second] = &mut outputs;
+        let (whole, _) = pairs.as_chunks_mut();
+        let by_wrapper = haul_tape::pair_tapes(first, second, whole, left_first, left_second)
+            .map(|paired| [paired.pairs, paired.left_first, paired.left_second])
+            .map_err(|refusal| refusal.number());
+        assert_eq!(by_wrapper, twin_counts, "pair tapes, by the Rust call");
+        assert_eq!(outputs, twin_outputs, "outputs of the Rust call");
+    }
+    (twin, twin_outputs)
+}
+
+/// Pairs the tickets of two opened tapes, into outputs that are just long enough, longer by some, and
+/// too short, and into vectors. Answers what is paired and what is left over.
+#[track_caller]
+pub fn pairing(first: &[u8], second: &[u8]) -> Result<Pairing, u8> {
+    let twin = pairing::pairing(first, second);
+    let by_wrapper = haul_tape::pair_tapes_to_vecs(first, second)
+        .map(|found| Pairing {
+            pairs: found.pairs,
+            left_first: found.left_first,
+            left_second: found.left_second,
+        })
+        .map_err(|refusal| refusal.number());
+    assert_eq!(by_wrapper, twin, "pair tapes, into vectors");
+    let found = match twin {
+        Ok(found) => found,
+        Err(number) => {
+            for rooms in [[0; 3], [4, 3, 3], [7, 0, 1]] {
+                let (answer, _) = pair_tapes(first, second, rooms);
+                assert_eq!(answer, Err(number), "rooms {rooms:?}");
+            }
+            return Err(number);
+        }
+    };
+    let lists = [&found.pairs.concat(), &found.left_first, &found.left_second];
+    let just = lists.map(Vec::len);
+    let done = Paired {
+        pairs: found.pairs.len(),
+        left_first: found.left_first.len(),
+        left_second: found.left_second.len(),
+    };
+    for more in [[0, 0, 0], [1, 0, 0], [2, 1, 0], [0, 0, 1], [5, 9, 2]] {
+        let rooms = std::array::from_fn(|i| just[i] + more[i]);
+        let (answer, outputs) = pair_tapes(first, second, rooms);
+        assert_eq!(answer, Ok(done), "rooms {rooms:?}");
+        for (output, list) in outputs.iter().zip(lists) {
+            assert_eq!(&output[..list.len()], list);
+        }
+    }
+    for which in 0..3 {
+        for fewer in 1..=just[which].min(2) {
+            for more in [0, 4] {
+                let mut rooms = just.map(|room| room + more);
+                rooms[which] = just[which] - fewer;
+                let (answer, _) = pair_tapes(first, second, rooms);
+                assert_eq!(answer, Err(6), "rooms {rooms:?}");
+            }
+        }
+    }
+    Ok(found)
 }

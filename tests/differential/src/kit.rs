@@ -2,11 +2,13 @@
 //!
 //! The kit's README says what stands in them. They come out the same every time.
 
+mod lines;
 mod lists;
 mod messages;
 mod moves;
 mod openings;
 mod packed;
+mod pairs;
 mod readings;
 mod receptions;
 mod short_tags;
@@ -52,6 +54,7 @@ pub fn files() -> Vec<File> {
     files.push(openings::openings(&tapes));
     files.push(trucks::trucks(&tapes));
     files.push(receptions::receptions(&tapes));
+    files.push(pairs::pairs(&tapes));
     files.extend(tapes);
     files
 }

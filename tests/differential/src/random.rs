@@ -143,6 +143,23 @@ impl Random {
         }
     }
 
+    /// A valid ticket of this truck and tipped time, of either form where form 1 has the time.
+    pub fn ticket_tipped(&mut self, truck: u16, tipped: u32) -> Ticket {
+        let ticket = self.ticket();
+        let form = if tipped > last_second(1) {
+            2
+        } else {
+            self.pick(&[1, 2])
+        };
+        Ticket {
+            form,
+            truck,
+            loaded: self.between(0, tipped),
+            tipped,
+            ..ticket
+        }
+    }
+
     /// A head with fields at and beyond the ends of their ranges.
     pub fn edge_head(&mut self) -> Head {
         let head = self.head();

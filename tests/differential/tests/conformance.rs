@@ -5,6 +5,7 @@ use haul_tape_differential::both::{self, Ran};
 use haul_tape_differential::calls::{write_tape, SessionCall, Sessions, WriterCall, Writers};
 use haul_tape_differential::kit::{self, bytes_of, heard, Readers};
 use haul_tape_twin::machine::{Done, Kind};
+use haul_tape_twin::pairing::Paired;
 use haul_tape_twin::receptions::{Part, Parted};
 use std::fs;
 use std::path::PathBuf;
@@ -497,6 +498,76 @@ fn receptions() {
     }
     assert!(partings.iter().all(|&some| some > 30), "{partings:?}");
     assert!(masts.iter().all(|&some| some > 15), "{masts:?}");
+}
+
+/// The items of a list of positions, each with one number or with several.
+fn positions(field: &str) -> Vec<Vec<u32>> {
+    let item = |item: &str| -> Vec<u32> { item.split('-').map(number).collect() };
+    let mut items = Vec::new();
+    for run in field.split(',').filter(|&run| run != "-") {
+        let (first, last) = run.split_once("..").unwrap_or((run, run));
+        let (mut next, last) = (item(first), item(last));
+        while next != last {
+            items.push(next.clone());
+            next.iter_mut().for_each(|position| *position += 1);
+            assert!(next[0] <= last[0], "no run: {run}");
+        }
+        items.push(last);
+    }
+    items
+}
+
+#[test]
+fn pairs() {
+    // lines that are done, with pairs and with tickets left over on either tape; refusals, by number
+    let (mut done, mut left, mut refused) = (0, [0; 2], [0; 13]);
+    for fields in lines("pairs.txt") {
+        let (call, answer) = parted(&fields);
+        let [call, first, second, rooms @ ..] = call else {
+            panic!("two tapes and three rooms: {fields:?}");
+        };
+        assert_eq!(call, "pair_tapes");
+        let [first, second] = [first, second].map(|field| plain_bytes(field));
+        let rooms: Vec<usize> = rooms.iter().map(|room| number(room)).collect();
+        let rooms: [usize; 3] = rooms.try_into().expect("three rooms");
+        let (paired, outputs) = both::pair_tapes(&first, &second, rooms);
+        let mut expected = rooms.map(both::number_pattern);
+        match answer {
+            [word, lists @ ..] if word == "done" => {
+                let lists: Vec<_> = lists.iter().map(|field| positions(field)).collect();
+                let [pairs, left_first, left_second] = &lists[..] else {
+                    panic!("three lists: {fields:?}");
+                };
+                let counts = Paired {
+                    pairs: pairs.len(),
+                    left_first: left_first.len(),
+                    left_second: left_second.len(),
+                };
+                assert_eq!(paired, Ok(counts), "{fields:?}");
+                for (expected, list) in expected.iter_mut().zip(&lists) {
+                    let list = list.concat();
+                    expected[..list.len()].copy_from_slice(&list);
+                }
+                assert!(pairs.iter().all(|pair| pair.len() == 2), "{fields:?}");
+                assert_eq!(13 * (counts.pairs + counts.left_first), first.len());
+                assert_eq!(13 * (counts.pairs + counts.left_second), second.len());
+                done += u32::from(counts.pairs > 0);
+                left[0] += u32::from(counts.left_first > 0);
+                left[1] += u32::from(counts.left_second > 0);
+            }
+            [word, expected] if word == "refused" => {
+                assert_eq!(paired, Err(number(expected)), "{fields:?}");
+                refused[number::<usize>(expected)] += 1;
+            }
+            _ => panic!("no answer: {fields:?}"),
+        }
+        assert_eq!(outputs, expected, "{fields:?}");
+    }
+    assert!(done > 60, "{done}");
+    assert!(left.iter().all(|&some| some > 30), "{left:?}");
+    for number in [2, 6, 8, 12] {
+        assert!(refused[number] > 10, "{refused:?}");
+    }
 }
 
 /// The plain bytes that a field stands for; it may name the file of a tape.

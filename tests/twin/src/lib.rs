@@ -14,6 +14,7 @@ pub mod listing;
 pub mod machine;
 pub mod message;
 pub mod number;
+pub mod pairing;
 pub mod reader;
 pub mod receptions;
 pub mod tape;

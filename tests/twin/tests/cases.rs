@@ -1,18 +1,9 @@
 //! Cases (h) to (l) of document 01, "Cases to prove"; (l) as document 02's P2 amends it. Those of one step, (a) to (g), are in step_cases.rs.
 
-use haul_tape_twin::ticket::{pack, pack_head, unpack, unpack_head, Head, Ticket};
+mod common;
 
-const TICKET: Ticket = Ticket {
-    form: 1,
-    truck: 5,
-    shovel: 2,
-    tip: 3,
-    grade: 4,
-    loaded: 3600,
-    tipped: 4200,
-    gross: 250000,
-    tare: 110000,
-};
+use common::TICKET;
+use haul_tape_twin::ticket::{pack, pack_head, unpack, unpack_head, Head, Ticket};
 
 #[test]
 fn case_h() {

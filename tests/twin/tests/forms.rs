@@ -1,6 +1,9 @@
 //! Tickets of form 2 (document 02, P6), beside those of form 1. The bytes here were made by hand from
 //! the widths of the fields.
 
+mod common;
+
+use common::TICKET as FORM_1;
 use haul_tape_twin::forms::move_ticket;
 use haul_tape_twin::listing::listing;
 use haul_tape_twin::reader::{Next, Reader};
@@ -8,20 +11,7 @@ use haul_tape_twin::tape::{open_tape, Writer};
 use haul_tape_twin::ticket::{pack, unpack, Head, Ticket};
 use haul_tape_twin::trucks::truck_list;
 
-/// Document 01, case (h).
-const FORM_1: Ticket = Ticket {
-    form: 1,
-    truck: 5,
-    shovel: 2,
-    tip: 3,
-    grade: 4,
-    loaded: 3600,
-    tipped: 4200,
-    gross: 250000,
-    tare: 110000,
-};
-
-/// The same in form 2.
+/// Document 01's ticket in form 2.
 const FORM_2: Ticket = Ticket { form: 2, ..FORM_1 };
 
 const FORM_1_BYTES: [u8; 13] = [

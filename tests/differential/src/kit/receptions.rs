@@ -1,5 +1,6 @@
 //! Two receptions of one tape: where they part, and the longer.
 
+use super::lines::Lines;
 use super::{bytes_of, hex, line, star, tapes, File, GREATEST, HEAD, TICKET};
 use crate::both;
 use crate::calls::write_tape;
@@ -20,46 +21,25 @@ pub fn heard(field: &str, tape: &dyn Fn(&str) -> Vec<u8>) -> Vec<u8> {
     field.split('+').flat_map(piece).collect()
 }
 
-/// Lines of the file, with the tapes that a field may name.
-struct Lines<'a> {
-    lines: Vec<String>,
-    tapes: &'a [File],
-}
-
-impl Lines<'_> {
-    fn title(&mut self, title: &str) {
-        self.lines.push(format!("\n# {title}"));
-    }
-
-    /// Both calls on two receptions.
-    fn pair(&mut self, first: &str, second: &str) {
-        let tape = |name: &str| tapes::key_and_tape(name, self.tapes).1;
-        let [a, b] = [first, second].map(|field| heard(field, &tape));
-        let parting = match both::parting(&a, &b) {
-            Ok(()) => "done".to_string(),
-            Err(parted) => line(&[&"refused", &parted.number, &parted.place]),
-        };
-        let part = both::longer(&a, &b);
-        let part = line(&[&part.mast, &part.bytes]);
-        for (call, answer) in [("parting", parting), ("longer", part)] {
-            let fields = line(&[&call, &first, &second, &"=", &answer]);
-            self.lines.push(fields);
-        }
-    }
-
-    /// The two receptions, each of them once as the first.
-    fn both_orders(&mut self, one: &str, other: &str) {
-        self.pair(one, other);
-        self.pair(other, one);
+/// Both calls on two receptions.
+fn both_calls(lines: &mut Lines, first: &str, second: &str) {
+    let tape = |name: &str| tapes::key_and_tape(name, lines.tapes).1;
+    let [a, b] = [first, second].map(|field| heard(field, &tape));
+    let parting = match both::parting(&a, &b) {
+        Ok(()) => "done".to_string(),
+        Err(parted) => line(&[&"refused", &parted.number, &parted.place]),
+    };
+    let part = both::longer(&a, &b);
+    let part = line(&[&part.mast, &part.bytes]);
+    for (call, answer) in [("parting", parting), ("longer", part)] {
+        let fields = line(&[&call, &first, &second, &"=", &answer]);
+        lines.lines.push(fields);
     }
 }
 
 pub(super) fn receptions(tapes: &[File]) -> File {
     let titles = "# parting first second = answer\n# longer first second = mast length";
-    let mut lines = Lines {
-        lines: vec![titles.to_string()],
-        tapes,
-    };
+    let mut lines = Lines::new(titles, tapes, both_calls);
     let key: [u8; 16] = std::array::from_fn(|i| i as u8);
     let tape = &write_tape(&key, HEAD, &[TICKET]);
     let whole = &hex(tape);
@@ -67,12 +47,12 @@ pub(super) fn receptions(tapes: &[File]) -> File {
     let wrong = |place: usize, bit: usize| hex(&turned(tape, 8 * place + bit));
 
     lines.title("Nothing was heard, by both masts or by one.");
-    lines.pair("-", "-");
+    lines.two("-", "-");
     lines.both_orders("-", "07");
     lines.both_orders("-", whole);
     lines.title("One byte.");
-    lines.pair("07", "07");
-    lines.pair("00", "00");
+    lines.two("07", "07");
+    lines.two("00", "00");
     for other in ["06", "87", "f8", "00"] {
         lines.both_orders("07", other);
     }
@@ -80,13 +60,13 @@ pub(super) fn receptions(tapes: &[File]) -> File {
     lines.both_orders("07", "0007");
 
     lines.title("A tape with document 01's ticket and head, heard whole by both masts.");
-    lines.pair(whole, whole);
+    lines.two(whole, whole);
     lines.title("Whole by one, and cut by the other.");
     for length in [1, 8, 9, 10, 22, 25, 37] {
         lines.both_orders(whole, &cut(length));
     }
     lines.title("Cut by both: at the same place, and at two.");
-    lines.pair(&cut(25), &cut(25));
+    lines.two(&cut(25), &cut(25));
     lines.both_orders(&cut(25), &cut(24));
     lines.both_orders(&cut(9), &cut(30));
     lines.title("Longer by zeros.");
@@ -130,12 +110,12 @@ pub(super) fn receptions(tapes: &[File]) -> File {
 
     lines.title("Tapes of the directory, whole, cut and with other bytes behind a cut.");
     for (name, length) in [("0_tickets", 25), ("40_tickets", 545)] {
-        lines.pair(&format!("{name}.tape"), &format!("{name}.tape"));
+        lines.two(&format!("{name}.tape"), &format!("{name}.tape"));
         let cut = format!("{name}.tape:{}", length - 1);
         lines.both_orders(&format!("{name}.tape"), &cut);
     }
     let long = "5000_tickets.tape";
-    lines.pair(long, long);
+    lines.two(long, long);
     for length in [1, 9, 255, 256, 32_512, 65_009, 65_024] {
         lines.both_orders(long, &format!("{long}:{length}"));
     }
@@ -150,12 +130,12 @@ pub(super) fn receptions(tapes: &[File]) -> File {
     lines.both_orders("1_ticket.tape", "refused_7_ciphertext_bit.tape");
     lines.both_orders("1_ticket.tape", "refused_7_tag_last_bit.tape");
     let tag_bit = "refused_7_tag_first_bit.tape";
-    lines.pair(tag_bit, tag_bit);
+    lines.two(tag_bit, tag_bit);
     lines.both_orders(tag_bit, "1_ticket.tape:22");
 
     lines.title("65,025 bytes, the most of a tape, and more.");
     let most = &star(65_025);
-    lines.pair(most, most);
+    lines.two(most, most);
     lines.both_orders(most, &star(65_024));
     lines.both_orders(most, &star(70_000));
     lines.both_orders(most, "*65024+00");
@@ -164,7 +144,7 @@ pub(super) fn receptions(tapes: &[File]) -> File {
     lines.both_orders(most, "01+65024x00");
     lines.both_orders("65025x00", "65024x00+80");
     lines.both_orders("65025x00", "32768x00+01+32256x00");
-    lines.pair("70000x5a", "70000x5a");
+    lines.two("70000x5a", "70000x5a");
     lines.both_orders("70000x5a", "69999x5a+5b");
     File::text("receptions.txt", lines.lines)
 }

@@ -1,33 +1,13 @@
 //! The trucks on one opened tape and on two.
 
-use super::{bytes_of, hex, line, pack_anyway, star, tapes, File};
+use super::lines::{broken_ticket, tape_of, Lines};
+use super::{hex, line, star, File};
 use super::{EMPTY_TRIPS, FORM_2, GREATEST, SMALLEST, TARE_ABOVE_GROSS, TICKET};
 use crate::both;
 use crate::random::turned;
 use haul_tape::Ticket;
 
-/// Lines of the file, with the tapes that a field may name.
-struct Lines<'a> {
-    lines: Vec<String>,
-    tapes: &'a [File],
-}
-
 impl Lines<'_> {
-    fn title(&mut self, title: &str) {
-        self.lines.push(format!("\n# {title}"));
-    }
-
-    /// The plain bytes that a field stands for.
-    fn plain(&self, field: &str) -> Vec<u8> {
-        let Some(name) = field.strip_suffix(".txt") else {
-            return bytes_of(field);
-        };
-        let (key, tape) = tapes::key_and_tape(name, self.tapes);
-        let opened = both::open_tape(&bytes_of(&key), &tape, tape.len() - 25);
-        opened.answer.expect("the tape opens");
-        opened.out
-    }
-
     /// The trucks on an opened tape.
     fn one(&mut self, plain: &str) {
         let answer = match both::trucks(&self.plain(plain)) {
@@ -42,31 +22,22 @@ impl Lines<'_> {
         };
         self.lines.push(line(&[&"trucks", &plain, &"=", &answer]));
     }
+}
 
-    /// The trucks on two opened tapes.
-    fn two(&mut self, first: &str, second: &str) {
-        let answer = match both::trucks_of_two(&self.plain(first), &self.plain(second)) {
-            Ok(counts) => line(&[&"done", &counts.both, &counts.either, &counts.just_one]),
-            Err(number) => line(&[&"refused", &number]),
-        };
-        self.lines
-            .push(line(&[&"trucks_of_two", &first, &second, &"=", &answer]));
-    }
-
-    /// The two tapes, each of them once as the first.
-    fn both_orders(&mut self, one: &str, other: &str) {
-        self.two(one, other);
-        self.two(other, one);
-    }
+/// The trucks on two opened tapes.
+fn trucks_of_two(lines: &mut Lines, first: &str, second: &str) {
+    let answer = match both::trucks_of_two(&lines.plain(first), &lines.plain(second)) {
+        Ok(counts) => line(&[&"done", &counts.both, &counts.either, &counts.just_one]),
+        Err(number) => line(&[&"refused", &number]),
+    };
+    let fields = line(&[&"trucks_of_two", &first, &second, &"=", &answer]);
+    lines.lines.push(fields);
 }
 
 /// A ticket for each of these trucks in turn, as a field; `-` for none.
 fn tape(trucks: &[u16]) -> String {
     let tickets = trucks.iter().map(|&truck| Ticket { truck, ..TICKET });
-    let plain: Vec<u8> = tickets
-        .flat_map(|ticket| both::pack_ticket(ticket, 13).out)
-        .collect();
-    hex(&plain)
+    tape_of(&tickets.collect::<Vec<_>>())
 }
 
 /// Trucks at both ends of each run of 64.
@@ -78,10 +49,7 @@ fn ends() -> Vec<u16> {
 
 pub(super) fn trucks(tapes: &[File]) -> File {
     let titles = "# trucks plain = answer\n# trucks_of_two first second = answer";
-    let mut lines = Lines {
-        lines: vec![titles.to_string()],
-        tapes,
-    };
+    let mut lines = Lines::new(titles, tapes, trucks_of_two);
     let ticket = both::pack_ticket(TICKET, 13).out;
     let good = &hex(&ticket);
     let bad = &hex(&turned(&ticket, 8 * 12));
@@ -93,11 +61,10 @@ pub(super) fn trucks(tapes: &[File]) -> File {
     lines.one(good);
     let three = |truck: [u16; 3]| {
         let tickets = [SMALLEST, TICKET, GREATEST];
-        let tickets = [0, 1, 2].map(|i| Ticket {
+        tape_of(&[0, 1, 2].map(|i| Ticket {
             truck: truck[i],
             ..tickets[i]
-        });
-        hex(&tickets.map(|t| both::pack_ticket(t, 13).out).concat())
+        }))
     };
     lines.one(&three([1, 5, 1_023]));
     lines.one(&format!("3x{good}"));
@@ -124,10 +91,9 @@ pub(super) fn trucks(tapes: &[File]) -> File {
 
     lines.title("Trips back empty: their trucks are counted.");
     lines.one("empty_trips.txt");
-    let empty = EMPTY_TRIPS.map(|t| both::pack_ticket(t, 13).out);
-    lines.one(&hex(&empty.concat()));
-    for packed in &empty {
-        lines.one(&hex(packed));
+    lines.one(&tape_of(&EMPTY_TRIPS));
+    for trip in EMPTY_TRIPS {
+        lines.one(&tape_of(&[trip]));
     }
 
     lines.title("1, 12, 14, 25 and 27 bytes (26 are right), and around 5,000 tickets.");
@@ -159,8 +125,7 @@ pub(super) fn trucks(tapes: &[File]) -> File {
         Ticket { tare: 250_001, ..t },
         TARE_ABOVE_GROSS,
     ] {
-        let broken = pack_anyway(broken).expect("the ticket fits its widths");
-        lines.one(&hex(&broken));
+        lines.one(&broken_ticket(broken));
     }
     lines.one(&star(65_000));
     lines.title("8 wherever it stands.");
@@ -222,10 +187,7 @@ pub(super) fn trucks(tapes: &[File]) -> File {
     lines.both_orders(bad, &format!("5001x{bad}"));
 
     lines.title("Form 2, alone and with form 1: a truck counts once, in whatever form.");
-    let form_2 = |truck: u16| {
-        let ticket = Ticket { truck, ..FORM_2 };
-        hex(&both::pack_ticket(ticket, 13).out)
-    };
+    let form_2 = |truck: u16| tape_of(&[Ticket { truck, ..FORM_2 }]);
     let second = &form_2(5);
     lines.one(second);
     for truck in [1, 63, 64, 1_023] {
@@ -250,7 +212,7 @@ pub(super) fn trucks(tapes: &[File]) -> File {
             ..FORM_2
         },
     ] {
-        let bad = hex(&pack_anyway(bad).expect("the ticket fits its widths"));
+        let bad = broken_ticket(bad);
         lines.one(&format!("{good}+{second}+{bad}"));
         lines.both_orders(second, &bad);
     }

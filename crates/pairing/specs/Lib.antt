@@ -1,0 +1,4 @@
+pub mod Pairing
+pub mod Contracts
+pub mod Laws
+pub mod Cases
