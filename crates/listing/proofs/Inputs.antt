@@ -6,10 +6,10 @@ use mathlib.Core.List.{List, _++_}
 use Prim.Native.Nat.{ℕ, _+_, _-_, _*_, _/_, _%_, _≤_, _<_}
 use native.Mathlib.Omega.{arith}
 use lib.Dec.{eqb, leb}
-use lib.ListN.{length, take, drop, length-take, length-drop, drop-of-length-le}
+use lib.ListN.{length, take, drop, replicate, length-take, length-drop, drop-of-length-le}
 use lib.Seq.{take-all, take-length, drop-length}
 use borrow.Author.Tests.{lt-leb, ne-eqb}
-use Rattle.calls.specs.Calls.{_if_else_, refused, done, writtenReply, writtenOver, Result}
+use Rattle.calls.specs.Calls.{_if_else_, refused, done, writtenReply, writtenOver}
 use Rattle.calls.specs.declared.Written.{Written}
 use Rattle.acorn_model.specs.Machine.{keyLength}
 use Rattle.calls.proofs.Choices.{lt-or-ge}
@@ -19,7 +19,7 @@ use Rattle.tape_model.specs.Listing.{refusedLine, listingUnless, listing, print
 use Rattle.tape_model.proofs.Tapes.{tapes-come-back}
 use Rattle.listing.specs.Contracts.{Wrote, Listed, textRoom}
 use Rattle.listing.specs.Laws.{longestInput, ListingFacts}
-use Rattle.listing.proofs.Texts.{fits-out}
+use Rattle.listing.proofs.Texts.{listed-told, listed-not-refused, listed-wrote}
 use Rattle.listing.proofs.Longest.{longest}
 
 -- ## Where the key ends
@@ -33,13 +33,16 @@ module _ (s : List ℕ) (r k : ℕ) (few : length s ≤ k → r ≡ length s) (m
       ⊎-elim (λ (p : length s < k). ap (λ (n : ℕ). take n s) (few (omega arith)) ∙ take-length s ∙ sym (take-all k s (omega arith))) (λ (p : k ≤ length s). ap (λ (n : ℕ). take n s) (many p))
       (lt-or-ge (length s) k)
 
-  pub same-rest : drop r s ≡ drop k s
+  same-rest : drop r s ≡ drop k s
   same-rest =
       ⊎-elim (λ (p : length s < k). ap (λ (n : ℕ). drop n s) (few (omega arith)) ∙ drop-length s ∙ sym (drop-of-length-le s {i = k} (omega arith))) (λ (p : k ≤ length s). ap (λ (n : ℕ). drop n s) (many p))
       (lt-or-ge (length s) k)
 
+  pub same-behind : take (length s - r) (drop r s) ≡ drop k s
+  same-behind = take-all (length s - r) (drop r s) (omega (arith, length-drop r s)) ∙ same-rest
+
   pub input-printed : listing (take r s) (take (length s - r) (drop r s)) ≡ listing (take k s) (drop k s)
-  input-printed = ap₂ listing same-front (take-all (length s - r) (drop r s) (omega (arith, length-drop r s)) ∙ same-rest)
+  input-printed = ap₂ listing same-front same-behind
 
 -- ## Inputs that are too long
 
@@ -54,16 +57,19 @@ too-many n h =
     none true = refl
     none false = refl
 
-long-refused : (key tape : List ℕ) → emptyTapeLength + ticketLength * ticketLimit < length tape → listing key tape ≡ refusedLine 2
-unfolding listing listingUnless openTapeRefusal isTapeLength
-long-refused key tape h =
-    ap (λ (n : ℕ). listingUnless n key tape)
-    (by (eqb (length key) keyLength) (leb emptyTapeLength (length tape)) (isTicketsLength (length tape - emptyTapeLength)) _ (too-many (length tape - emptyTapeLength) (omega arith)))
+pub long-number : (key tape out : List ℕ) → emptyTapeLength + ticketLength * ticketLimit < length tape → openTapeRefusal key tape out ≡ 2
+unfolding openTapeRefusal isTapeLength
+long-number key tape out h =
+    by (eqb (length key) keyLength) (leb emptyTapeLength (length tape)) (isTicketsLength (length tape - emptyTapeLength)) _ (too-many (length tape - emptyTapeLength) (omega arith))
   where
     by : (a b c : Bool) (n : ℕ) → c ≡ false → (2 if not (a && (b && c)) else n) ≡ 2
     by true true c n e = rw e
     by true false c n e = refl
     by false b c n e = refl
+
+long-refused : (key tape : List ℕ) → emptyTapeLength + ticketLength * ticketLimit < length tape → listing key tape ≡ refusedLine 2
+unfolding listing listingUnless
+long-refused key tape h = ap (λ (n : ℕ). listingUnless n key tape) (long-number key tape (replicate (length tape) 0) h)
 
 too-long : (input : List ℕ) → longestInput < length input → printed input ≡ refusedLine 2
 unfolding printed
@@ -77,22 +83,15 @@ printed-length input = longest (take keyLength input) (drop keyLength input)
 
 pub input-listed : (input out : List ℕ) (answer : Written) (after : List ℕ) → textRoom ≤ length out → Listed (printed input) out answer after
     → (writtenReply answer ≡ done (length (printed input))) × (after ≡ writtenOver (printed input) out)
-input-listed input out answer after room met =
-    let e = sym met ∙ fits-out (printed input) out (omega (arith, printed-length input)) in
-    (ap (λ (r : Result ℕ). r .answer) e, ap (λ (r : Result ℕ). r .out) e)
+input-listed input out answer after room met = listed-told (printed input) out answer after (omega (arith, printed-length input)) met
 
 -- the same by the answer: it is no refusal, and a length that was answered is the text's
 module _ (input out : List ℕ) (answer : Written) (after : List ℕ) (n : ℕ) (room : textRoom ≤ length out) (met : Listed (printed input) out answer after) where
   pub not-refused : writtenReply answer ≡ refused n → ⊥
-  not-refused e =
-      let f : refused n ≡ done (length (printed input)) = sym e ∙ input-listed input out answer after room met .0 in
-      let z : _≡_ {A = ℕ} 0 1 = cc in omega arith
+  not-refused = listed-not-refused (printed input) out answer after (omega (arith, printed-length input)) met n
 
   pub input-wrote : writtenReply answer ≡ done n → Wrote (printed input) out n after
-  input-wrote e =
-      let r = input-listed input out answer after room met in
-      let f : done n ≡ done (length (printed input)) = sym e ∙ r .0 in
-      record { count = cc; written = r .1 }
+  input-wrote = listed-wrote (printed input) out answer after (omega (arith, printed-length input)) met n
 
 pub listing-facts : ListingFacts
 listing-facts =

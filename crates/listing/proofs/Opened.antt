@@ -4,7 +4,7 @@ use mathlib.Core.Bool.{Bool, true, false, not, _&&_}
 use mathlib.Core.List.{List}
 use Prim.Native.Nat.{ℕ, zero, suc, _*_, _≤_}
 use native.Mathlib.Omega.{arith}
-use lib.Dec.{eqb}
+use lib.Dec.{eqb, ltb}
 use lib.ListN.{length, take, replicate, length-replicate}
 use borrow.Author.Tests.{le-ltb}
 use Rattle.calls.specs.Calls.{_if_else_, Reply, refused, done, writtenOver, Result, isRefused}
@@ -44,6 +44,13 @@ same-but-room true b c c′ n h = refl
 same-but-room false true c c′ n h = refl
 same-but-room false false c c′ n h = ap (λ (x : Bool). 6 if x else n) (h refl)
 
+-- where another number than 6 applies, it does with room, too
+same-but-6 : (a b c c′ : Bool) (n m : ℕ) → (2 if a else 3 if b else 6 if c else n) ≡ m → (m ≡ 6 → ⊥) → (a ≡ false → c′ ≡ false) → (2 if a else 3 if b else 6 if c′ else n) ≡ m
+same-but-6 true b c c′ n m e z h = e
+same-but-6 false true c c′ n m e z h = e
+same-but-6 false false true c′ n m e z h = absurd (z (sym e))
+same-but-6 false false false c′ n m e z h = ap (λ (x : Bool). 6 if x else n) (h refl) ∙ e
+
 module _ (key tape : List ℕ) where
   abbrev sizes-wrong : Bool
   sizes-wrong = not (eqb (length key) keyLength && isTapeLength (length tape))
@@ -56,12 +63,19 @@ module _ (key tape : List ℕ) where
   ticket-bytes s = (omega (arith, text-length (length tape) s), omega (arith, s .few))
 
   -- outputs with room for them are refused alike
-  room-enough : (out : List ℕ) → longestPlain ≤ length out → openTapeRefusal key tape out ≡ openTapeRefusal key tape enough
+  pub room-enough : (out : List ℕ) → longestPlain ≤ length out → openTapeRefusal key tape out ≡ openTapeRefusal key tape enough
   unfolding openTapeRefusal
   room-enough out room =
       same-but-room sizes-wrong (isRefused (unpackHead (headBytes tape))) _ _ _
       (λ e. let t = ticket-bytes (sizes-told key (length tape) (isTapeLength (length tape)) refl e .1) in
       le-ltb (length out) (ticketLength * ticketCount tape) (omega (arith, t .1)) ∙ sym (le-ltb (length enough) (ticketLength * ticketCount tape) (omega (arith, t .0, length-replicate {A = ℕ} (length tape) 0))))
+
+  pub other-number : (out : List ℕ) (m : ℕ) → openTapeRefusal key tape out ≡ m → (m ≡ 6 → ⊥) → openTapeRefusal key tape enough ≡ m
+  unfolding openTapeRefusal
+  other-number out m e z =
+      same-but-6 sizes-wrong (isRefused (unpackHead (headBytes tape))) (ltb (length out) (ticketLength * ticketCount tape)) _ _ m e z
+      (λ f. le-ltb (length enough) (ticketLength * ticketCount tape)
+      (omega (arith, ticket-bytes (sizes-told key (length tape) (isTapeLength (length tape)) refl f .1) .0, length-replicate {A = ℕ} (length tape) 0)))
 
   -- what the listing is where opening is refused
   pub refused-listing : (out : List ℕ) (n : ℕ) (after : List ℕ) → longestPlain ≤ length out → openTape key tape out ≡ record { answer = refused n; out = after } → refusedLine n ≡ listing key tape

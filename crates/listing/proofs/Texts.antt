@@ -7,8 +7,9 @@ use lib.ListN.{length, getD, set, take, drop, length-append, length-take, length
 use lib.Seq.{drop-cons, set-at, take-suc, take-length}
 use borrow.Rule.Slice.PartMut.{putMid}
 use borrow.Author.Tests.{le-ltb, lt-ltb}
+use Rattle.calls.specs.declared.Written.{Written}
 use Rattle.calls.specs.declared.Written.the-variants.{Refused, Done}
-use Rattle.calls.specs.Calls.{done, writtenReply, writtenOver, putInto}
+use Rattle.calls.specs.Calls.{refused, done, writtenReply, writtenOver, Result, putInto}
 use Rattle.calls.proofs.Results.{result-written, result-refused}
 use Rattle.calls.proofs.Writing.{written-length, written-behind}
 use Rattle.tape_model.specs.Listing.{space, lineEnd, decimal, numbers}
@@ -110,39 +111,39 @@ numbers-joined [] ns = refl
 numbers-joined (m ∷ ms) ns = ap (λ (l : List ℕ). space ++ decimal m ++ l) (numbers-joined ms ns) ∙ sym (append-assoc (space ++ decimal m) (numbers ms) (numbers ns))
 
 -- what is written of the numbers so far is no longer than all
-numbers-within : (ns : List ℕ) (i : ℕ) → length (numbers (take i ns)) ≤ length (numbers ns)
+pub numbers-within : (ns : List ℕ) (i : ℕ) → length (numbers (take i ns)) ≤ length (numbers ns)
 numbers-within ns i =
     let e = ap (λ (l : List ℕ). length (numbers l)) (sym (take-append-drop i ns)) ∙ ap length (numbers-joined (take i ns) (drop i ns)) ∙ length-append (numbers (take i ns)) (numbers (drop i ns)) in
     omega (arith, e)
 
 -- one number more
+abbrev number : List ℕ → ℕ → List ℕ
+number ns i = space ++ decimal (getD ns i 0)
+
+pub number-more : (ns : List ℕ) (i : ℕ) → i < length ns → numbers (take i ns) ++ number ns i ≡ numbers (take (i + 1) ns)
+unfolding numbers
+number-more ns i here =
+    ap (λ (l : List ℕ). numbers (take i ns) ++ l) (sym (append-nil (number ns i)))
+    ∙ sym (numbers-joined (take i ns) (getD ns i 0 ∷ []))
+    ∙ ap numbers (sym (take-suc ns i 0 here))
+    ∙ ap (λ (k : ℕ). numbers (take k ns)) {x = suc i} {y = i + 1} (omega arith)
+
 module _ (ns out mid : List ℕ) (i n : ℕ) (here : i < length ns) (room : length (numbers ns) ≤ length out) (so-far : Wrote (numbers (take i ns)) out n mid) where
-  abbrev number : List ℕ
-  number = space ++ decimal (getD ns i 0)
-
-  number-more : numbers (take i ns) ++ number ≡ numbers (take (i + 1) ns)
-  unfolding numbers
-  number-more =
-      ap (λ (l : List ℕ). numbers (take i ns) ++ l) (sym (append-nil number))
-      ∙ sym (numbers-joined (take i ns) (getD ns i 0 ∷ []))
-      ∙ ap numbers (sym (take-suc ns i 0 here))
-      ∙ ap (λ (k : ℕ). numbers (take k ns)) {x = suc i} {y = i + 1} (omega arith)
-
-  with-it : length (numbers (take i ns) ++ number) ≤ length out
-  with-it = omega (arith, ap length number-more, numbers-within ns (i + 1))
+  with-it : length (numbers (take i ns) ++ number ns i) ≤ length out
+  with-it = omega (arith, ap length (number-more ns i here), numbers-within ns (i + 1))
 
   pub number-start : n ≤ length mid
-  number-start = behind-start (numbers (take i ns)) number out mid n with-it so-far
+  number-start = behind-start (numbers (take i ns)) (number ns i) out mid n with-it so-far
 
-  pub number-room : length number ≤ length (take (length mid - n) (drop n mid))
-  number-room = behind-room (numbers (take i ns)) number out mid n with-it so-far
+  pub number-room : length (number ns i) ≤ length (take (length mid - n) (drop n mid))
+  number-room = behind-room (numbers (take i ns)) (number ns i) out mid n with-it so-far
 
-  module _ (r : ℕ) (part : List ℕ) (w : Wrote number (take (length mid - n) (drop n mid)) r part) where
+  module _ (r : ℕ) (part : List ℕ) (w : Wrote (number ns i) (take (length mid - n) (drop n mid)) r part) where
     pub number-wrote : Wrote (numbers (take (i + 1) ns)) out (n + r) (putMid n (length mid - n) mid part)
-    number-wrote = wrote-as number-more (behind-wrote (numbers (take i ns)) number out mid n with-it so-far r part w)
+    number-wrote = wrote-as (number-more ns i here) (behind-wrote (numbers (take i ns)) (number ns i) out mid n with-it so-far r part w)
 
     pub number-within : n + r ≤ length out
-    number-within = behind-within (numbers (take i ns)) number out mid n with-it so-far r part w
+    number-within = behind-within (numbers (take i ns)) (number ns i) out mid n with-it so-far r part w
 
 -- ## Lines
 
@@ -167,3 +168,17 @@ listed-whole {text} {out} room w = fits-out text out room ∙ ap₂ (λ (n : ℕ
 pub listed-short : (text : List ℕ) {out : List ℕ} → length out < length text → Listed text out (Refused 6) out
 unfolding putInto writtenReply
 listed-short text {out} short = rw (lt-ltb (length out) (length text) short) (result-refused 6 (length text) text out (λ e. omega arith))
+
+-- ## What a call comes to that is lent room enough: it is not refused, and a length that was answered is the text's
+
+module _ (text out : List ℕ) (answer : Written) (after : List ℕ) (room : length text ≤ length out) (met : Listed text out answer after) where
+  pub listed-told : (writtenReply answer ≡ done (length text)) × (after ≡ writtenOver text out)
+  listed-told = let e = sym met ∙ fits-out text out room in (ap (λ (r : Result ℕ). r .answer) e, ap (λ (r : Result ℕ). r .out) e)
+
+  pub listed-not-refused : (n : ℕ) → writtenReply answer ≡ refused n → ⊥
+  listed-not-refused n e =
+      let f : refused n ≡ done (length text) = sym e ∙ listed-told .0 in
+      let z : _≡_ {A = ℕ} 0 1 = cc in omega arith
+
+  pub listed-wrote : (n : ℕ) → writtenReply answer ≡ done n → Wrote text out n after
+  listed-wrote n e = let f : done n ≡ done (length text) = sym e ∙ listed-told .0 in record { count = cc; written = listed-told .1 }

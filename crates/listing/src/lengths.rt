@@ -5,7 +5,9 @@ use tape_model::Ticket;
 use tape_model::UnpackedTicket;
 ghost use mathlib.Core.Path.{_≡_};
 ghost use mathlib.Core.Bool.{false};
-ghost use Prim.Native.Nat.{_≤_};
+ghost use mathlib.Core.List.{_++_};
+ghost use Prim.Native.Nat.{_+_, _≤_};
+ghost use lib.Dec.{leb};
 ghost use lib.ListN.{length};
 ghost use Rattle.calls.specs.Calls.{done, isRefused};
 ghost use Rattle.tape_model.specs.Tape.{plainTickets, ticketsIn};
@@ -24,6 +26,26 @@ fn decimal_length(n: u64) -> usize
         digits += 1;
     }
     digits
+}
+
+// Whether a line of a word of so many bytes, and numbers behind it, fits into so much room.
+pub(crate) fn line_fits(word: usize, ns: &[u64], room: usize) -> bool
+    ensures { λ r. ⌜ r ≡ leb (word + length (model.numbers (now (ns .entry)) ++ model.lineEnd)) room ⌝ }
+{
+    if room < word {
+        return false;
+    }
+    let mut left = room - word;
+    let mut i: usize = 0;
+    while i < ns.len() {
+        let n = 1 + decimal_length(ns[i]);
+        if left < n {
+            return false;
+        }
+        left -= n;
+        i += 1;
+    }
+    0 < left
 }
 
 pub(crate) fn refused_line_length(number: u8) -> usize

@@ -5,6 +5,7 @@ mod text;
 
 use acorn_model::KEY_LENGTH;
 use calls::Written;
+use lengths::line_fits;
 use lengths::listed_length;
 use lengths::refused_line_length;
 use lines::put_head_line;
@@ -18,7 +19,9 @@ use tape_model::TICKET_LENGTH;
 use tape_model::TICKET_LIMIT;
 use tape_model::UnpackedHead;
 use tape_opening::open_scratch;
+use text::put_line;
 ghost use mathlib.Core.Path.{_≡_};
+ghost use mathlib.Core.List.{_++_};
 ghost use Prim.Native.Nat.{_≤_};
 ghost use lib.ListN.{length, replicate};
 ghost use Rattle.calls.specs.Calls.{done};
@@ -132,4 +135,14 @@ pub fn list_input(input: &[u8], out: &mut [u8]) -> Written
 {
     let n = key_end(input.len());
     list_tape(&input[..n], &input[n..], out)
+}
+
+// Writes a line: a word, and numbers behind it, a space before each: 6 where the output is too short for it.
+pub fn list_line(word: &[u8], ns: &[u64], out: &mut [u8]) -> Written
+    ensures { λ r. ⌜ Listed (now (word .entry) ++ model.numbers (now (ns .entry)) ++ model.lineEnd) (now (out .entry)) r (now (out .exit)) ⌝ }
+{
+    if !line_fits(word.len(), ns, out.len()) {
+        return Written::Refused(6);
+    }
+    Written::Done(put_line(word, ns, out))
 }

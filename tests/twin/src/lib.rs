@@ -15,6 +15,7 @@ pub mod machine;
 pub mod message;
 pub mod number;
 pub mod pairing;
+pub mod pay_sheet;
 pub mod reader;
 pub mod receptions;
 pub mod tape;

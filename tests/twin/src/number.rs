@@ -1,8 +1,8 @@
 //! The refusal numbers and the limits that go with them (document 01, "What sends a call back";
-//! 9 to 12 are from document 02, P4 to P7).
+//! 9 to 13 are from document 02, P4 to P8).
 //!
-//! The smallest number that applies is answered, but 9 comes right after 1: before 2; and where
-//! tapes are paired 6 comes after 12.
+//! The smallest number that applies is answered, but 9 comes right after 1: before 2; where tapes are
+//! paired 6 comes after 12; and 13 comes first.
 
 /// The phase, or the kind of machine, does not allow the call.
 pub const PHASE: u8 = 1;
@@ -29,6 +29,8 @@ pub const RECEPTIONS: u8 = 10;
 pub const TOO_LATE: u8 = 11;
 /// A truck's tipped times fall.
 pub const TIMES_FALL: u8 = 12;
+/// A rate is too high.
+pub const RATE: u8 = 13;
 
 /// The most bytes of data, and the most bytes of text, that one message may have.
 pub const MAX_BYTES: usize = 65_536;

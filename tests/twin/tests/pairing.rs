@@ -2,11 +2,14 @@
 //! numbers, and that the plain search has as many pairs as any pairing where no times fall.
 
 mod common;
+#[path = "common/plain_tapes.rs"]
+mod plain_tapes;
 
 use common::TICKET;
 use haul_tape_twin::pairing::{may_pair, pair_tapes, pairing, search, times_fall};
 use haul_tape_twin::pairing::{Paired, Pairing};
-use haul_tape_twin::ticket::{pack, Ticket};
+use haul_tape_twin::ticket::Ticket;
+use plain_tapes::{plain, Values};
 
 /// A ticket of this truck and tipped time, of form 1 where that has the time.
 fn tipped(truck: u16, tipped: u32) -> Ticket {
@@ -28,16 +31,6 @@ fn at(times: &[u32]) -> Vec<Ticket> {
 fn of(tickets: &[(u16, u32)]) -> Vec<Ticket> {
     let ticket = |&(truck, time): &(u16, u32)| tipped(truck, time);
     tickets.iter().map(ticket).collect()
-}
-
-/// The opened tape with these tickets.
-fn plain(tickets: &[Ticket]) -> Vec<u8> {
-    let packed = |ticket| {
-        let mut packed = [0; 13];
-        pack(ticket, &mut packed).unwrap();
-        packed
-    };
-    tickets.iter().flat_map(packed).collect()
 }
 
 /// What the two tapes are answered.
@@ -462,19 +455,7 @@ fn fewer_where_times_fall() {
     }
 }
 
-/// Repeatable values: splitmix64.
-struct Values(u64);
-
 impl Values {
-    /// From 0 to `bound` - 1.
-    fn below(&mut self, bound: u32) -> u32 {
-        self.0 = self.0.wrapping_add(0x9E37_79B9_7F4A_7C15);
-        let mut z = self.0;
-        z = (z ^ (z >> 30)).wrapping_mul(0xBF58_476D_1CE4_E5B9);
-        z = (z ^ (z >> 27)).wrapping_mul(0x94D0_49BB_1331_11EB);
-        ((z ^ (z >> 31)) % u64::from(bound)) as u32
-    }
-
     /// A tape of up to `most` tickets of a few trucks, with times that are close and do not fall for
     /// a truck. Its forms are mixed.
     fn tape(&mut self, most: u32, trucks: u32, from: u32) -> Vec<Ticket> {

@@ -1,0 +1,9 @@
+pub mod Sums
+pub mod Ranks
+pub mod Filled
+pub mod Hauled
+pub mod Remaining
+pub mod Opened
+pub mod Made
+pub mod Proved
+pub mod Cases

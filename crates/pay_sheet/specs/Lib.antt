@@ -1,0 +1,4 @@
+pub mod PaySheet
+pub mod Contracts
+pub mod Laws
+pub mod Cases

@@ -1,0 +1,4 @@
+pub mod Printed
+pub mod Contracts
+pub mod Laws
+pub mod Cases
