@@ -30,11 +30,11 @@
  *   ht_pair_tapes  36 KiB
  *   each other     640 bytes
  *
- * Each answer but those of ht_longer and ht_session_groups, which are never refused, has a field `refused`: 0 where the call was done, else
- * the number that sent it back. The smallest number that applies is given, but 9 is tried right after 1, before 2, and 6 is tried after 12
- * in pairing and after 14 in cutting; and the rest of the answer is 0 (a reading's position stays, and 10 comes with its place). The numbers
- * beside a call stand in the order in which they are tried. A refused call changes nothing: every word of its struct and every byte of its
- * buffers is as it was; but a wrong tag (7) closes a checking session.
+ * Each answer but that of ht_longer, which is never refused, has a field `refused`: 0 where the call was done, else the number that
+ * sent it back. The smallest number that applies is given, but 9 is tried right after 1, before 2, and in pairing 6 is tried last, after
+ * 12; and the rest of the answer is 0 (a reading's position stays, and 10 comes with its place). The numbers beside a call stand in the
+ * order in which they are tried. A refused call changes nothing: every word of its struct and every byte of its buffers is as it was; but a
+ * wrong tag (7) closes a checking session.
  *
  *   1  the call does not fit the phase, or is meant for the other kind of session
  *   2  a key or nonce that is not 16 bytes; a tag of another length than the one fixed; sealed bytes shorter than the tag; a tape that
@@ -50,7 +50,6 @@
  *  10  two receptions part
  *  11  a ticket of form 2 that is tipped after second 43,199 is asked for in form 1
  *  12  a truck's tipped times on a tape to be paired fall
- *  14  no pieces to cut into, more of them than bytes, or more than 65,536 bytes to cut
  */
 #ifndef HAUL_TAPE_H
 #define HAUL_TAPE_H
@@ -105,10 +104,9 @@ ht_written ht_open_tag(const uint8_t *key, size_t keylen, const uint8_t *nonce, 
 /* ---- sessions: a message in pieces ---- */
 
 /* A session. Its words are its own: set it by one of the two calls below. Two copies that both go on would use one keystream
- * twice: go on from one copy only. The words are not for storing, nor for another version of the library. Any twelve words are some
- * session: none make a call unsafe. Since groups are counted a session has a word more, and so has a writer: programs that were compiled
- * before that are to be compiled anew. */
-typedef struct { uint64_t words[12]; } ht_session;
+ * twice: go on from one copy only. The words are not for storing, nor for another version of the library. Any eleven words are some
+ * session: none make a call unsafe. */
+typedef struct { uint64_t words[11]; } ht_session;
 
 void ht_session_fresh_sealing(ht_session *s);
 void ht_session_fresh_checking(ht_session *s);
@@ -130,11 +128,6 @@ ht_answer ht_session_seal_close(ht_session *s, uint8_t *out, size_t outlen);    
  * opening in pieces: text is given by ht_open and ht_open_tag alone. */
 ht_answer ht_session_check_text(ht_session *s, const uint8_t *piece, size_t piecelen); /* 1, 5 */
 ht_answer ht_session_check_close(ht_session *s, const uint8_t *tag, size_t taglen);    /* 1, 2, 7 */
-
-/* The groups of the pieces taken since the session was fresh, of either kind: a piece of b bytes, data or text alike, takes b / 4 of them,
- * rounded up, and an empty piece none. So the count depends on where a message is cut, while the bytes written and the steps do not. A
- * refused call leaves it, and so do begin and close: it can be asked for after a close, too. */
-uint64_t ht_session_groups(const ht_session *s);
 
 /* ---- tickets and heads ---- */
 
@@ -173,7 +166,7 @@ ht_unpacked_ticket ht_move_ticket(ht_ticket ticket, uint8_t form);
 
 /* A tape's writer: start, add for each ticket, finish. Each writes its part of the tape at the start of its output: 9 bytes, 13
  * bytes, 16 bytes. What is said of a session's words holds of a writer's. A tape that is given up after start has used up its head. */
-typedef struct { uint64_t words[13]; } ht_writer;
+typedef struct { uint64_t words[12]; } ht_writer;
 
 void ht_writer_fresh(ht_writer *w);
 ht_answer ht_writer_start(ht_writer *w, const uint8_t *key, size_t keylen, ht_head head, uint8_t *out, size_t outlen); /* 1, 2, 3, 6 */
@@ -249,16 +242,6 @@ typedef struct { uint32_t refused; uint64_t pairs; uint64_t left_first; uint64_t
  * output is shorter than what was found. */
 ht_paired ht_pair_tapes(const uint8_t *first, size_t firstlen, const uint8_t *second, size_t secondlen, uint32_t *pairs, size_t pairslen,
     uint32_t *left_first, size_t left_firstlen, uint32_t *left_second, size_t left_secondlen); /* 2, 8, 12, 6 */
-
-/* ---- the dearest cutting ---- */
-
-/* How many groups a cutting takes. For n bytes in k pieces, none empty, the most is (n + 3k) / 4, rounded down: no cutting takes more. */
-typedef struct { uint32_t refused; uint64_t groups; } ht_cutting;
-
-/* The cutting of so many bytes into so many pieces that takes the most groups, as ht_session_groups counts them: writes the lengths of the
- * pieces, in order, which are as many numbers as pieces. Nothing behind them changes. Of several cuttings that take as many it is the one
- * whose first length is least, then its second, and so on. 14, 6. */
-ht_cutting ht_dearest_cutting(uint64_t bytes, uint64_t pieces, uint32_t *lengths, size_t lengthslen);
 
 #ifdef __cplusplus
 }

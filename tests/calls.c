@@ -1,8 +1,7 @@
 /* Every call of the header: two tickets go onto a tape, the tape is opened and read back, a message is sealed and checked in pieces,
  * the trucks of tapes are counted, tickets are judged by their weights and by their times in both forms and moved from one form to the
- * other, messages have tags of every length, two receptions of a tape are compared, the tickets of two tapes are paired, pieces are counted
- * in groups, and the cuttings that take the most of these are given. Prints what it read, and ends with 1 where anything is not as it
- * should be.
+ * other, messages have tags of every length, two receptions of a tape are compared, and the tickets of two tapes are paired. Prints what it
+ * read, and ends with 1 where anything is not as it should be.
  */
 #include "haul_tape.h"
 
@@ -18,11 +17,10 @@ _Static_assert(sizeof(ht_ticket) == 24 && offsetof(ht_ticket, truck) == 2 && off
 _Static_assert(sizeof(ht_head) == 12 && sizeof(ht_answer) == 24 && sizeof(ht_written) == 16 && sizeof(ht_opened) == 24, "layout");
 _Static_assert(sizeof(ht_reading) == 40 && sizeof(ht_unpacked_ticket) == 28 && sizeof(ht_unpacked_head) == 16, "layout");
 _Static_assert(sizeof(ht_truck_count) == 8 && sizeof(ht_truck_counts) == 16 && sizeof(ht_truck_set) == 128, "layout");
-_Static_assert(sizeof(ht_session) == 96 && sizeof(ht_writer) == 104, "layout");
+_Static_assert(sizeof(ht_session) == 88 && sizeof(ht_writer) == 96, "layout");
 _Static_assert(sizeof(ht_parted) == 16 && offsetof(ht_parted, place) == 8, "layout");
 _Static_assert(sizeof(ht_reception) == 16 && offsetof(ht_reception, bytes) == 8, "layout");
 _Static_assert(sizeof(ht_paired) == 32 && offsetof(ht_paired, pairs) == 8 && offsetof(ht_paired, left_second) == 24, "layout");
-_Static_assert(sizeof(ht_cutting) == 16 && offsetof(ht_cutting, groups) == 8, "layout");
 
 static void must(int holds, const char *what)
 {
@@ -770,7 +768,7 @@ static void begins_with_tag(size_t n, int sealing)
     }
 }
 
-/* Of word 11 of a session the lowest eight bits are its tag's length. One that no tag has is read as sixteen, and a call that is not refused
+/* Of word 10 of a session the lowest eight bits are its tag's length. One that no tag has is read as sixteen, and a call that is not refused
  * stores sixteen. */
 static void read_as_sixteen(uint64_t length)
 {
@@ -778,25 +776,25 @@ static void read_as_sixteen(uint64_t length)
     ht_session s, before;
 
     up_to_close(&s, HT_LEAST_TAG_BYTES, 1, out);
-    must(s.words[11] == HT_LEAST_TAG_BYTES, "a session holds another length");
-    s.words[11] = length;
+    must(s.words[10] == HT_LEAST_TAG_BYTES, "a session holds another length");
+    s.words[10] = length;
     before = s;
     must(ht_session_seal_close(&s, out + TEXT_BYTES, HT_TAG_BYTES - 1).refused == 6 && same_session(&s, &before), "a refused call changes the session");
-    must(ht_session_seal_text(&s, tag_text, 0, out, 0).refused == 0 && s.words[11] == HT_TAG_BYTES, "a length that no tag has is stored");
+    must(ht_session_seal_text(&s, tag_text, 0, out, 0).refused == 0 && s.words[10] == HT_TAG_BYTES, "a length that no tag has is stored");
     s = before;
     must(answered(ht_session_seal_close(&s, out + TEXT_BYTES, HT_TAG_BYTES), 0, HT_TAG_BYTES, TAG_STEPS), "close answers otherwise");
-    must(memcmp(out, long_sealed, sizeof long_sealed) == 0 && s.words[11] == HT_TAG_BYTES, "a length that no tag has is not read as sixteen");
+    must(memcmp(out, long_sealed, sizeof long_sealed) == 0 && s.words[10] == HT_TAG_BYTES, "a length that no tag has is not read as sixteen");
 
     up_to_close(&s, HT_LEAST_TAG_BYTES, 0, long_sealed);
-    s.words[11] = length;
+    s.words[10] = length;
     before = s;
     must(ht_session_check_close(&s, long_sealed + sizeof long_sealed - HT_LEAST_TAG_BYTES, HT_LEAST_TAG_BYTES).refused == 2, "a short tag is taken");
     must(same_session(&s, &before), "a refused call changes the session");
     must(answered(ht_session_check_close(&s, long_sealed + TEXT_BYTES, HT_TAG_BYTES), 0, 0, TAG_STEPS), "the tag differs");
-    must(s.words[11] == HT_TAG_BYTES, "a length that no tag has is stored");
+    must(s.words[10] == HT_TAG_BYTES, "a length that no tag has is stored");
 }
 
-/* A number above 7 in word 10 of a session or writer is a closed session: word 10 says nothing of the tag's length. */
+/* A number above 7 in word 9 of a session or writer is a closed session: word 9 says nothing of the tag's length. */
 static void read_as_closed(uint64_t number)
 {
     static const ht_ticket ticket = {.form = 1, .truck = 417, .shovel = 9, .tip = 33, .loaded = 3600, .tipped = 4815, .gross = 5};
@@ -805,7 +803,7 @@ static void read_as_closed(uint64_t number)
     ht_writer w, started;
 
     up_to_close(&s, HT_LEAST_TAG_BYTES, 1, out);
-    s.words[10] = number;
+    s.words[9] = number;
     before = s;
     fill(out, sizeof out);
     must(ht_session_begin(&s, key, sizeof key, tag_nonce, sizeof tag_nonce).refused == 1, "a closed session is begun");
@@ -820,7 +818,7 @@ static void read_as_closed(uint64_t number)
     ht_writer_fresh(&w);
     must(ht_writer_start(&w, key, sizeof key, (ht_head){7, 2, 1}, out, sizeof out).refused == 0, "start is refused");
     fill(out, sizeof out);
-    w.words[10] = number;
+    w.words[9] = number;
     started = w;
     must(ht_writer_add(&w, ticket, out, sizeof out).refused == 1, "a writer of a closed session takes a ticket");
     must(ht_writer_finish(&w, out, sizeof out).refused == 1, "a writer of a closed session is finished");
@@ -1182,197 +1180,6 @@ static void pairing(void)
     printf("tickets of a truck tipped at most 120 seconds apart are paired, in tape order, and falling times are refused\n");
 }
 
-/* ---- groups and the dearest cutting ---- */
-
-static ht_session fresh_session(int sealing)
-{
-    ht_session s;
-
-    if (sealing)
-        ht_session_fresh_sealing(&s);
-    else
-        ht_session_fresh_checking(&s);
-    return s;
-}
-
-static ht_answer give_text(ht_session *s, int sealing, const uint8_t *piece, size_t piecelen)
-{
-    return sealing ? ht_session_seal_text(s, piece, piecelen, much, sizeof much) : ht_session_check_text(s, piece, piecelen);
-}
-
-/* The call reads the session and leaves it as it is. */
-static void has_groups(const ht_session *s, uint64_t groups)
-{
-    const ht_session before = *s;
-
-    must(ht_session_groups(s) == groups, "ht_session_groups answers otherwise");
-    must(same_session(s, &before), "ht_session_groups changes the session");
-}
-
-/* Pieces of so many bytes take so many groups each, as data and as text, in a session of either kind; refused calls take none. */
-static void pieces_take(size_t piece, uint64_t groups, int sealing)
-{
-    ht_session s = fresh_session(sealing);
-    uint64_t count = 0;
-
-    has_groups(&s, 0);
-    must(ht_session_data(&s, long_bytes, piece).refused == 1 && give_text(&s, sealing, long_bytes, piece).refused == 1, "a fresh session takes a piece");
-    must(ht_session_begin(&s, key, 15, tag_nonce, sizeof tag_nonce).refused == 2, "a short key is taken");
-    has_groups(&s, 0);
-    must(ht_session_begin(&s, key, sizeof key, tag_nonce, sizeof tag_nonce).refused == 0, "begin is refused");
-    has_groups(&s, 0);
-    for (int times = 0; times < 3; times++) {
-        must(ht_session_data(&s, long_bytes, piece).refused == 0, "data is refused");
-        has_groups(&s, count += groups);
-        must(ht_session_data(&s, long_bytes, HT_MOST_BYTES + 1).refused == 5, "a byte of data too many is taken");
-        must(give_text(&s, !sealing, long_bytes, piece).refused == 1, "text of the other kind is taken");
-        if (sealing && piece > 0)
-            must(ht_session_seal_text(&s, long_bytes, piece, much, piece - 1).refused == 6, "a short output is taken");
-        has_groups(&s, count);
-    }
-    for (int times = 0; times < 3; times++) {
-        must(give_text(&s, sealing, long_bytes, piece).refused == 0, "text is refused");
-        has_groups(&s, count += groups);
-        must(ht_session_data(&s, long_bytes, piece).refused == 1, "data is taken after text");
-        must(give_text(&s, sealing, long_bytes, HT_MOST_BYTES + 1).refused == 5, "a byte of text too many is taken");
-        has_groups(&s, count);
-    }
-    if (sealing)
-        must(ht_session_seal_close(&s, much, HT_TAG_BYTES).refused == 0, "close is refused");
-    else
-        must(ht_session_check_close(&s, long_bytes, HT_TAG_BYTES).refused == 7, "another tag is taken");
-    has_groups(&s, count);
-    must(give_text(&s, sealing, long_bytes, piece).refused == 1, "a closed session takes a piece");
-    has_groups(&s, count);
-    s = fresh_session(sealing);
-    has_groups(&s, 0);
-}
-
-/* the output, with numbers before and behind, and what it must hold */
-static struct { uint32_t before[2], numbers[HT_MOST_BYTES + 4]; } cut_out;
-static uint32_t cut_wanted[HT_MOST_BYTES];
-
-static ht_cutting cut_into(uint64_t bytes, uint64_t pieces, size_t room)
-{
-    memset(&cut_out, 0x5a, sizeof cut_out);
-    return ht_dearest_cutting(bytes, pieces, cut_out.numbers, room);
-}
-
-static void is_not_cut(uint64_t bytes, uint64_t pieces, size_t room, uint32_t refused)
-{
-    ht_cutting c = cut_into(bytes, pieces, room);
-
-    must(c.refused == refused && c.groups == 0, "ht_dearest_cutting is refused otherwise");
-    must_be_filled((const uint8_t *)&cut_out, sizeof cut_out);
-}
-
-/* The lengths of `cut_wanted`, into outputs of as many numbers and of three more; and outputs that are too short. */
-static void is_cut(uint64_t bytes, size_t pieces, uint64_t groups)
-{
-    for (size_t more = 0; more <= 3; more += 3) {
-        ht_cutting c = cut_into(bytes, pieces, pieces + more);
-        must(c.refused == 0 && c.groups == groups, "ht_dearest_cutting answers otherwise");
-        must(memcmp(cut_out.numbers, cut_wanted, pieces * sizeof *cut_wanted) == 0, "ht_dearest_cutting writes other lengths");
-        must_be_filled((const uint8_t *)cut_out.before, sizeof cut_out.before);
-        must_be_filled((const uint8_t *)(cut_out.numbers + pieces), sizeof cut_out.numbers - pieces * sizeof *cut_wanted);
-    }
-    is_not_cut(bytes, pieces, 0, 6);
-    is_not_cut(bytes, pieces, pieces - 1, 6);
-}
-
-/* Few bytes: the most groups of every cutting, and of those that take them the one that comes first. A cutting of n bytes is n - 1 bits: at
- * which places it is cut. */
-static void every_cutting(unsigned n)
-{
-    static uint64_t most[17];
-    static uint32_t first[17][16];
-
-    memset(most, 0, sizeof most);
-    for (unsigned places = 0; places < 1u << (n - 1); places++) {
-        uint32_t lengths[16] = {0};
-        uint64_t groups = 0;
-        unsigned pieces = 0;
-        int earlier = 0;
-
-        for (unsigned i = 0; i < n; i++) {
-            lengths[pieces]++;
-            if (i + 1 == n || places >> i & 1)
-                pieces++;
-        }
-        for (unsigned i = 0; i < pieces; i++)
-            groups += (lengths[i] + 3) / 4;
-        for (unsigned i = 0; i < pieces && earlier == 0; i++)
-            earlier = lengths[i] < first[pieces][i] ? 1 : lengths[i] > first[pieces][i] ? -1 : 0;
-        if (groups > most[pieces] || (groups == most[pieces] && earlier == 1)) {
-            most[pieces] = groups;
-            memcpy(first[pieces], lengths, sizeof lengths);
-        }
-    }
-    for (unsigned pieces = 1; pieces <= n; pieces++) {
-        must(most[pieces] == (n + 3 * pieces) / 4, "another number of groups is the most");
-        memcpy(cut_wanted, first[pieces], pieces * sizeof *cut_wanted);
-        is_cut(n, pieces, most[pieces]);
-    }
-}
-
-/* Many bytes: a byte in each piece but the last comes before all other cuttings. A session takes as many groups for these pieces. */
-static void many_bytes(size_t bytes, size_t pieces)
-{
-    const uint64_t groups = (bytes + 3 * pieces) / 4;
-
-    for (size_t i = 0; i < pieces; i++)
-        cut_wanted[i] = i + 1 < pieces ? 1 : (uint32_t)(bytes - (pieces - 1));
-    is_cut(bytes, pieces, groups);
-    for (int sealing = 0; sealing < 2; sealing++) {
-        ht_session s = fresh_session(sealing);
-        size_t at = 0;
-
-        must(ht_session_begin(&s, key, sizeof key, tag_nonce, sizeof tag_nonce).refused == 0, "begin is refused");
-        for (size_t i = 0; i < pieces; at += cut_wanted[i++])
-            must(give_text(&s, sealing, long_bytes + at, cut_wanted[i]).refused == 0, "text is refused");
-        must(at == bytes, "the lengths do not add up");
-        has_groups(&s, groups);
-    }
-}
-
-static void cuttings(void)
-{
-    static const struct { size_t piece; uint64_t groups; } known[] = {{0, 0}, {1, 1}, {2, 1}, {3, 1}, {4, 1}, {5, 2}, {7, 2}, {8, 2}, {9, 3}, {13, 4},
-        {16, 4}, {17, 5}, {31, 8}, {32, 8}, {33, 9}, {4096, 1024}, {4097, 1025}};
-    static const uint64_t words[] = {0, 1, 2, 3, 4, 5, 65536, UINT32_MAX, (uint64_t)1 << 32, UINT64_MAX};
-    static const size_t many[] = {5, 100, 4096, 65533, 65534, 65535, 65536}, pieces[] = {1, 2, 3, 4, 5, 63, 1000, 32768, 65535, 65536};
-    static const struct { uint64_t bytes, pieces; } wrong[] = {{0, 0}, {0, 1}, {1, 0}, {1, 2}, {9, 10}, {65536, 0}, {65536, 65537}, {65537, 1}, {65537, 0},
-        {65537, 65537}, {(uint64_t)1 << 32 | 9, 2}, {9, (uint64_t)1 << 32 | 2}, {UINT64_MAX, 1}, {1, UINT64_MAX}, {UINT64_MAX, UINT64_MAX}, {0, UINT64_MAX}};
-
-    for (size_t i = 0; i < sizeof known / sizeof *known; i++)
-        for (int sealing = 0; sealing < 2; sealing++)
-            pieces_take(known[i].piece, known[i].groups, sealing);
-
-    /* of any words the call answers word 9 */
-    for (size_t i = 0; i < sizeof words / sizeof *words; i++)
-        for (int other = 0; other < 256; other += 51) {
-            ht_session s;
-            memset(&s, other, sizeof s);
-            s.words[9] = words[i];
-            has_groups(&s, words[i]);
-        }
-
-    for (unsigned n = 1; n <= 16; n++)
-        every_cutting(n);
-    for (size_t i = 0; i < sizeof many / sizeof *many; i++)
-        for (size_t j = 0; j < sizeof pieces / sizeof *pieces; j++)
-            if (pieces[j] <= many[i])
-                many_bytes(many[i], pieces[j]);
-
-    /* 14, with room and without: it comes before 6 */
-    for (size_t i = 0; i < sizeof wrong / sizeof *wrong; i++) {
-        is_not_cut(wrong[i].bytes, wrong[i].pieces, 0, 14);
-        is_not_cut(wrong[i].bytes, wrong[i].pieces, 1, 14);
-        is_not_cut(wrong[i].bytes, wrong[i].pieces, HT_MOST_BYTES + 4, 14);
-    }
-    printf("pieces are counted in groups of 4 bytes, rounded up, and the cutting that takes the most is given\n");
-}
-
 int main(void)
 {
     static const ht_ticket tickets[2] = {
@@ -1398,6 +1205,5 @@ int main(void)
     receptions();
     heard_by_two(tape, n, 2);
     pairing();
-    cuttings();
     return 0;
 }

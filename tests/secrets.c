@@ -16,8 +16,7 @@
  *
  * Not run are the calls without a key on tickets, heads and opened bytes: packing, unpacking, moving, reading, counting trucks and pairing. The
  * header says of counting trucks and of pairing that branches and addresses depend on the tickets, and nothing of the others. Nor are the calls
- * on two receptions, which are sealed bytes: the header says that branches depend on them; nor the dearest cutting, which is given two numbers
- * and nothing secret.
+ * on two receptions, which are sealed bytes: the header says that branches depend on them.
  */
 #include "tapes.h"
 
@@ -200,8 +199,6 @@ static void counts_known(const ht_session *s, ht_answer *a)
     (void)VALGRIND_CHECK_MEM_IS_DEFINED(&s->words[6], sizeof s->words - STATE_BYTES);
     (void)VALGRIND_CHECK_MEM_IS_DEFINED(&a->refused, sizeof a->refused);
     (void)VALGRIND_CHECK_MEM_IS_DEFINED(&a->bytes, sizeof a->bytes + sizeof a->steps);
-    uint64_t groups = ht_session_groups(s);
-    (void)VALGRIND_CHECK_MEM_IS_DEFINED(&groups, sizeof groups);
 }
 
 static void session_in_pieces(size_t n, size_t piece, size_t taglen)

@@ -44,7 +44,6 @@ static const struct { const char *call; size_t upto; size_t bytes; } promises[] 
     {"ht_session_seal_close", ANY, 640},
     {"ht_session_check_text", ANY, 640},
     {"ht_session_check_close", ANY, 640},
-    {"ht_session_groups", ANY, 640},
     {"ht_pack_ticket", ANY, 640},
     {"ht_unpack_ticket", ANY, 640},
     {"ht_move_ticket", ANY, 640},
@@ -66,7 +65,6 @@ static const struct { const char *call; size_t upto; size_t bytes; } promises[] 
     {"ht_parting", ANY, 640},
     {"ht_longer", ANY, 640},
     {"ht_pair_tapes", ANY, 36 * 1024},
-    {"ht_dearest_cutting", ANY, 640},
 };
 
 /* ---- the calls, through a pointer, so that a function that does nothing can stand in their place ---- */
@@ -78,7 +76,7 @@ static function target;
 /* what the call is given; lengths that a case does not name are right ones */
 static struct {
     size_t keylen, noncelen, datalen, textlen, secondlen, taglen, outlen;
-    size_t pairslen, left_firstlen, left_secondlen, cutlen;
+    size_t pairslen, left_firstlen, left_secondlen;
     const uint8_t *text; /* text, sealed bytes, a piece, a tag, a tape, a reception, packed or plain bytes */
     const uint8_t *second; /* the plain bytes of a second tape, or a second reception */
     ht_session session;
@@ -87,13 +85,12 @@ static struct {
     uint8_t form;
     ht_head head;
     ht_truck_set set;
-    uint64_t position, bytes, pieces;
+    uint64_t position;
 } given, saved;
 
-/* what it answers; each answer begins with `refused`, but that of ht_longer with the mast, and that of ht_session_groups is a number */
+/* what it answers; each answer begins with `refused`, but that of ht_longer with the mast */
 static union {
     uint32_t refused;
-    uint64_t groups;
     ht_written written;
     ht_answer answer;
     ht_opened opened;
@@ -105,17 +102,15 @@ static union {
     ht_parted parted;
     ht_reception longer;
     ht_paired paired;
-    ht_cutting cutting;
 } got;
 
 static uint8_t data[HT_MOST_BYTES + 1], out[HT_MOST_LISTING_BYTES];
-static uint32_t pairs[2 * HT_MOST_TICKETS], left_first[HT_MOST_TICKETS], left_second[HT_MOST_TICKETS], cut[HT_MOST_BYTES + 1];
+static uint32_t pairs[2 * HT_MOST_TICKETS], left_first[HT_MOST_TICKETS], left_second[HT_MOST_TICKETS];
 
 #define NOTHING __attribute__((noipa)) static
 NOTHING void no_answer(void) {}
 NOTHING ht_written no_written(void) { return (ht_written){0, 0}; }
 NOTHING ht_answer no_session(void) { return (ht_answer){0, 0, 0}; }
-NOTHING uint64_t no_groups(void) { return 0; }
 NOTHING ht_opened no_opened(void) { return (ht_opened){0, 0, 0}; }
 NOTHING ht_unpacked_ticket no_ticket(void) { return (ht_unpacked_ticket){.refused = 0}; }
 NOTHING ht_unpacked_head no_head(void) { return (ht_unpacked_head){.refused = 0}; }
@@ -125,7 +120,6 @@ NOTHING ht_truck_counts no_two(void) { return (ht_truck_counts){0, 0, 0, 0}; }
 NOTHING ht_parted no_parted(void) { return (ht_parted){0, 0}; }
 NOTHING ht_reception no_longer(void) { return (ht_reception){0, 0}; }
 NOTHING ht_paired no_paired(void) { return (ht_paired){0, 0, 0, 0}; }
-NOTHING ht_cutting no_cutting(void) { return (ht_cutting){0, 0}; }
 
 /* CALL(name, the field of `got`, what stands in its place, its arguments) */
 #define CALL(name, field, nothing, ...) \
@@ -157,7 +151,6 @@ CALL(ht_session_seal_text, answer, no_session, &given.session, TEXT, OUT)
 CALL(ht_session_seal_close, answer, no_session, &given.session, OUT)
 CALL(ht_session_check_text, answer, no_session, &given.session, TEXT)
 CALL(ht_session_check_close, answer, no_session, &given.session, TEXT)
-CALL(ht_session_groups, groups, no_groups, &given.session)
 CALL(ht_pack_ticket, written, no_written, given.ticket, OUT)
 CALL(ht_unpack_ticket, ticket, no_ticket, TEXT)
 CALL(ht_move_ticket, ticket, no_ticket, given.ticket, given.form)
@@ -176,7 +169,6 @@ CALL(ht_truck_set_of, trucks, no_trucks, TEXT, &given.set)
 CALL(ht_parting, parted, no_parted, TEXT, SECOND)
 CALL(ht_longer, longer, no_longer, TEXT, SECOND)
 CALL(ht_pair_tapes, paired, no_paired, TEXT, SECOND, pairs, given.pairslen, left_first, given.left_firstlen, left_second, given.left_secondlen)
-CALL(ht_dearest_cutting, cutting, no_cutting, given.bytes, given.pieces, cut, given.cutlen)
 
 /* ---- measuring ---- */
 
@@ -330,7 +322,6 @@ static void usual(void)
     saved.outlen = sizeof out;
     saved.pairslen = COUNT(pairs);
     saved.left_firstlen = saved.left_secondlen = HT_MOST_TICKETS;
-    saved.cutlen = COUNT(cut);
     saved.head = tape_head;
     saved.ticket = random_ticket();
 }
@@ -494,14 +485,6 @@ static void sessions(void)
     usual(), saved.session = checking, saved.textlen = 16, measure(&ht_session_check_close_call, ANY, 7);
     usual(), saved.session = fresh, saved.textlen = 16, measure(&ht_session_check_close_call, ANY, 1);
     usual(), saved.session = checking, saved.textlen = 15, measure(&ht_session_check_close_call, ANY, 2);
-
-    /* the groups: of 9 bytes of data, and of 5 of text */
-    usual(), saved.session = fresh, measure(&ht_session_groups_call, ANY, 0);
-    usual(), saved.session = sealing, measure(&ht_session_groups_call, ANY, 3);
-    usual(), saved.session = in_text, measure(&ht_session_groups_call, ANY, 5);
-    usual(), saved.session = checking, measure(&ht_session_groups_call, ANY, 3);
-    usual(), saved.session = in_check, measure(&ht_session_groups_call, ANY, 5);
-    usual(), saved.session = closed, measure(&ht_session_groups_call, ANY, 5);
 }
 
 /* A begin with a length, and the closes behind it. */
@@ -754,31 +737,6 @@ static void pairing(void)
     measure(&ht_pair_tapes_call, ANY, 2);
 }
 
-/* The dearest cutting: of few bytes and of many into one piece, some, and as many as can be; an output too short; and what is not cut. */
-static void cutting(void)
-{
-    static const uint64_t bytes[] = {1, 2, 3, 4, 5, 8, 9, 100, 4096, 65535, 65536}, pieces[] = {1, 2, 3, 4, 5, 17, 1000, 32768, 65535, 65536};
-    static const uint64_t wrong[][2] = {{0, 0}, {0, 1}, {9, 0}, {9, 10}, {65536, 65537}, {65537, 1}, {UINT64_MAX, 1}, {UINT64_MAX, UINT64_MAX}};
-
-    for (size_t i = 0; i < COUNT(bytes); i++)
-        for (size_t j = 0; j < COUNT(pieces); j++) {
-            usual(), saved.bytes = bytes[i], saved.pieces = pieces[j];
-            if (pieces[j] > bytes[i])
-                measure(&ht_dearest_cutting_call, ANY, 14);
-            else {
-                measure(&ht_dearest_cutting_call, ANY, 0);
-                saved.cutlen = pieces[j], measure(&ht_dearest_cutting_call, ANY, 0);
-                saved.cutlen--, measure(&ht_dearest_cutting_call, ANY, 6);
-                saved.cutlen = 0, measure(&ht_dearest_cutting_call, ANY, 6);
-            }
-        }
-    for (size_t i = 0; i < COUNT(wrong); i++) {
-        usual(), saved.bytes = wrong[i][0], saved.pieces = wrong[i][1];
-        measure(&ht_dearest_cutting_call, ANY, 14);
-        saved.cutlen = 0, measure(&ht_dearest_cutting_call, ANY, 14);
-    }
-}
-
 static void reads_below(void)
 {
     volatile uint8_t room[20000];
@@ -845,7 +803,6 @@ int main(int argc, char **argv)
     trucks();
     receptions();
     pairing();
-    cutting();
     if (print_table) {
         printf("%-28s%16s%10s%10s%10s\n", "call", "text length", "changed", "touched", "promised");
         for (size_t i = 0; i < sizeof promises / sizeof *promises; i++)
@@ -856,6 +813,6 @@ int main(int argc, char **argv)
         printf("stack: %d of %d cases take more than is promised\n", faults, cases);
         return 1;
     }
-    printf("stack: %d cases of 33 calls stay within the promised bytes\n", cases);
+    printf("stack: %d cases of 31 calls stay within the promised bytes\n", cases);
     return 0;
 }

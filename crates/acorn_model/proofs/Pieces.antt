@@ -12,7 +12,6 @@ use Rattle.acorn_model.specs.declared.Kind.{Kind}
 use Rattle.acorn_model.specs.declared.Phase.TheVariants.{Text}
 use Rattle.calls.specs.Calls.{◌if◌else◌}
 use Rattle.acorn_model.specs.Machine.{Machine, is_checking, is_data, run_through, enter, count_data, count_text, data_taken, data_ended, text_taken}
-use Rattle.acorn_model.specs.Laws.{without_groups}
 use Rattle.acorn_model.proofs.Bytes.{bytes_same, bytes_add, bits_left, bits_right}
 use Rattle.acorn_model.proofs.Runs.{run-same, run_none, run_on}
 
@@ -108,18 +107,13 @@ module _ (key nonce : List ℕ) (ds : List (List ℕ)) where
 
 -- ## The machine
 
--- what a run of the data end leaves, the data end leaves, whatever the phase
-pub ended_keeps : {A : Type 0} (f : Machine → A) (m : Machine) → f (run_through data_end m) ≡ f m → f (data_ended m) ≡ f m
-unfolding data_ended
-ended_keeps f m e = by (is_data m.phase)
-  where
-    by : (b : Bool) → f (run_through data_end m if b else m) ≡ f m
-    by true = e
-    by false = refl
-
 ended_kind : (m : Machine) → (data_ended m).kind ≡ m.kind
-unfolding run_through
-ended_kind m = ended_keeps (λ x. x.kind) m refl
+unfolding data_ended run_through
+ended_kind m = by (is_data m.phase)
+  where
+    by : (b : Bool) → (run_through data_end m if b else m).kind ≡ m.kind
+    by true = refl
+    by false = refl
 
 module _ (m : Machine) (a b : List ℕ) where
   -- counted one after the other, or at once
@@ -129,7 +123,7 @@ module _ (m : Machine) (a b : List ℕ) where
   stepped : (n : ℕ) → (n + 8 * length a) + 8 * length b ≡ n + 8 * length (a ++ b)
   stepped n = omega (arith, length-append a b)
 
-  pub data_in_pieces : without_groups (data_taken b (data_taken a m)) ≡ without_groups (data_taken (a ++ b) m)
+  pub data_in_pieces : data_taken b (data_taken a m) ≡ data_taken (a ++ b) m
   unfolding data_taken run_through count_data
   data_in_pieces =
       let S = sym (data_piece-append a b m.state) in
@@ -138,10 +132,10 @@ module _ (m : Machine) (a b : List ℕ) where
         phase = m.phase;
         tag_length = m.tag_length;
         state = S i;
-        counts = record { data_bytes = counted m.counts.data_bytes i; text_bytes = m.counts.text_bytes; steps = stepped m.counts.steps i; groups = 0 };
+        counts = record { data_bytes = counted m.counts.data_bytes i; text_bytes = m.counts.text_bytes; steps = stepped m.counts.steps i };
       }
 
-  pub text_in_pieces : without_groups (text_taken b (text_taken a m)) ≡ without_groups (text_taken (a ++ b) m)
+  pub text_in_pieces : text_taken b (text_taken a m) ≡ text_taken (a ++ b) m
   unfolding text_taken data_ended run_through count_text enter
   text_in_pieces =
       let e = data_ended m in
@@ -153,5 +147,5 @@ module _ (m : Machine) (a b : List ℕ) where
         phase = Text;
         tag_length = e.tag_length;
         state = S i;
-        counts = record { data_bytes = e.counts.data_bytes; text_bytes = counted e.counts.text_bytes i; steps = stepped e.counts.steps i; groups = 0 };
+        counts = record { data_bytes = e.counts.data_bytes; text_bytes = counted e.counts.text_bytes i; steps = stepped e.counts.steps i };
       }

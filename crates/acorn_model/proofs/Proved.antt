@@ -2,17 +2,17 @@
 use mathlib.Core.Path.{◌≡◌, refl, sym, ap, ◌∙◌}
 use mathlib.Core.Bool.{Bool, true, false}
 use mathlib.Core.List.{List}
-use Prim.Native.Nat.{ℕ, ◌+◌, ◌-◌, ◌≤◌}
+use Prim.Native.Nat.{ℕ, ◌-◌, ◌≤◌}
 use native.Mathlib.Omega.{arith}
-use lib.ListN.{length, drop}
+use lib.ListN.{drop}
 use Rattle.acorn_model.specs.Bits.{Bits}
-use Rattle.acorn_model.specs.Stretches.{full_tag_length, after_data, before_final, last_bytes, tag_bytes, joined}
+use Rattle.acorn_model.specs.Stretches.{full_tag_length, data_end, after_data, before_final, last_bytes, tag_bytes, joined}
 use Rattle.acorn_model.specs.Paper.{ciphertext, tag_of_length, decrypted, new_tag_of_length}
-use Rattle.calls.specs.Calls.{◌if◌else◌, refused, done, accepted, Work, Outcome, unless_refused, refused_with, written_over, same_bytes}
-use Rattle.acorn_model.specs.Machine.{Machine, Call, begin, data_call, seal_text, check_text, seal_close, check_close, output_of, fixes_right, sizes_right, over_limit, output_short, refusal, run_through, enter, cleared, count_data, count_text, groups_of, begun, data_taken, data_ended, text_taken, text_ended, closed, answered, wrote, verdict, work, call}
-use Rattle.acorn_model.specs.Laws.{PaperComputed, ShortTags, OpeningExact, StretchesAgree, MessageLaws, EveryLength, PieceLaws, GroupLaws, CallGroups, TagLengthLaws, SentBack, SentBackLaws}
+use Rattle.calls.specs.Calls.{◌if◌else◌, refused, done, Work, Outcome, unless_refused, refused_with, written_over, same_bytes}
+use Rattle.acorn_model.specs.Machine.{Machine, Call, begin, data_call, seal_text, check_text, seal_close, check_close, output_of, is_data, fixes_right, sizes_right, over_limit, output_short, refusal, run_through, enter, cleared, count_data, count_text, begun, data_taken, data_ended, text_taken, text_ended, closed, answered, wrote, verdict, work, call}
+use Rattle.acorn_model.specs.Laws.{PaperComputed, ShortTags, OpeningExact, StretchesAgree, MessageLaws, EveryLength, PieceLaws, TagLengthLaws, SentBack, SentBackLaws}
 use Rattle.acorn_model.proofs.Agree.{ciphertext_agrees, tag_agrees, decrypted_agrees, new_tag_agrees}
-use Rattle.acorn_model.proofs.Pieces.{ended_keeps, message_out, message_tag, data_in_pieces, text_in_pieces}
+use Rattle.acorn_model.proofs.Pieces.{message_out, message_tag, data_in_pieces, text_in_pieces}
 use Rattle.acorn_model.proofs.Inverse.{decrypted-ciphertext, opens_with_tag, opens_exactly}
 use Rattle.acorn_model.proofs.Relation.{sealing_by_paper, sealing_only, opening_by_paper, opening_only}
 use Rattle.acorn_model.proofs.Outputs.{tag_bytes-drop, tag_bytes-length, tag-length, new_tag-length}
@@ -112,16 +112,17 @@ piece_laws m = record { of_data = data_in_pieces m; of_text = text_in_pieces m }
 
 -- the data end leaves it
 ended_length : (m : Machine) → (data_ended m).tag_length ≡ m.tag_length
-unfolding run_through
-ended_length m = ended_keeps (λ x. x.tag_length) m refl
+unfolding data_ended run_through
+ended_length m = either (is_data m.phase)
+  where
+    either : (b : Bool) → (run_through data_end m if b else m).tag_length ≡ m.tag_length
+    either true = refl
+    either false = refl
 
--- a call leaves what its work leaves
-keeps : (f : Machine → ℕ) (m : Machine) (c : Call) → f (work m c).next ≡ f m → f (call m c).next ≡ f m
-unfolding call refused_with
-keeps f m c e = by_number (λ (o : Outcome Machine Work). f o.next ≡ f m) (refusal m c) (work m c) (refused_with (refusal m c) m (output_of c)) (λ _. e) (λ _. refl)
-
+-- a call leaves it where its work does
 kept : (m : Machine) (c : Call) → (work m c).next.tag_length ≡ m.tag_length → (call m c).next.tag_length ≡ m.tag_length
-kept = keeps (λ x. x.tag_length)
+unfolding call refused_with
+kept m c e = by_number (λ (o : Outcome Machine Work). o.next.tag_length ≡ m.tag_length) (refusal m c) (work m c) (refused_with (refusal m c) m (output_of c)) (λ _. e) (λ _. refl)
 
 good_or_7 : (b : Bool) (m : Machine) → verdict b m ≡ (done (record { bytes = 0; steps = m.counts.steps }) if b else refused 7)
 unfolding verdict answered
@@ -169,31 +170,4 @@ sent_back-laws m =
       of_check_text = λ piece. sent_back m (check_text piece);
       of_seal_close = λ out. sent_back m (seal_close out);
       of_check_close = λ tag. sent_back m (check_close tag);
-    }
-
--- ## Groups
-
-pub group_laws : GroupLaws
-group_laws = record { none = refl; room = λ b. omega arith; least = λ b g h. omega (arith, h); cut = λ a b. omega arith }
-
--- the data end leaves them
-ended_groups : (m : Machine) → (data_ended m).counts.groups ≡ m.counts.groups
-unfolding run_through
-ended_groups m = ended_keeps (λ x. x.counts.groups) m refl
-
--- an accepted call's groups are its work's
-worked_groups : (m : Machine) (c : Call) → refusal m c ≡ accepted → (call m c).next.counts.groups ≡ (work m c).next.counts.groups
-worked_groups m c e = ap (λ (o : Outcome Machine Work). o.next.counts.groups) (works m c (passed m c e))
-
-pub call_groups : (m : Machine) → CallGroups m
-unfolding work wrote begun data_taken text_taken text_ended closed enter cleared count_data count_text run_through
-call_groups m =
-    record {
-      of_begin = λ key nonce n. keeps (λ x. x.counts.groups) m (begin key nonce n) refl;
-      of_data = λ piece e. worked_groups m (data_call piece) e;
-      of_seal_text = λ piece out e. worked_groups m (seal_text piece out) e ∙ ap (λ n. n + groups_of (length piece)) (ended_groups m);
-      of_check_text = λ piece e. worked_groups m (check_text piece) e ∙ ap (λ n. n + groups_of (length piece)) (ended_groups m);
-      of_seal_close = λ out. keeps (λ x. x.counts.groups) m (seal_close out) (ended_groups m);
-      of_check_close = λ tag. keeps (λ x. x.counts.groups) m (check_close tag) (ended_groups m);
-      of_refused = λ c n e. ap (λ (o : Outcome Machine Work). o.next.counts.groups) (sent_back m c n e);
     }

@@ -4,7 +4,7 @@ use Rattle.acorn_model.specs.Bits.{Bits, bit, bits_in, bytes}
 use Rattle.calls.specs.Calls.{AreBytes, ◌if◌else◌, refused, done, accepted, written_over, same_bytes}
 use Rattle.acorn_model.specs.Paper.{Encrypts, ciphertext, tag_of_length, decrypted, new_tag_of_length, tag, new_tag, Opens}
 use Rattle.acorn_model.specs.Stretches.{Stretch, full_tag_length, text_out, tag_of, tag_bytes, through, text_end, after_data, before_final, text_pieces, text_pieces_out, joined, after_data_pieces}
-use Rattle.acorn_model.specs.Machine.{Machine, with_groups, with_counts, groups_of, Call, begin, data_call, seal_text, check_text, seal_close, check_close, least_tag_length, tag_length_right, key_length, nonce_length, key_and_nonce_right, byte_limit, phase_allows, refusal, data_taken, text_taken, text_ended, closed, call}
+use Rattle.acorn_model.specs.Machine.{Machine, Call, begin, data_call, seal_text, check_text, seal_close, check_close, least_tag_length, tag_length_right, key_length, nonce_length, key_and_nonce_right, byte_limit, phase_allows, refusal, data_taken, text_taken, text_ended, closed, call}
 use Rattle.acorn_model.specs.Message.{sealed_with, tag_matches_with, opened_with, seal_message, open_message}
 
 -- In a string, bit 8k+j (j below 8) has weight 2^j in byte k; and in the n bytes that bits make, the weight 2^j of byte k is bit 8k+j of them.
@@ -137,36 +137,11 @@ pub record EveryLength : Type 0 where
 
 -- ## Data and text in pieces
 
--- the machine with its groups left out
-abbrev pub without_groups : Machine → Machine
-without_groups m = with_counts (with_groups 0 m.counts) m
-
--- Data that the machine takes in two pieces, or text, leads to the same machine as both at once, but for the groups: its state, phase, tag length, bytes and
--- steps. So a piece does not end the data, and each piece of text has its effect.
+-- Data that the machine takes in two pieces, or text, leads to the same machine as both at once: its state, phase, tag length and counts. So a piece does not end
+-- the data, and each piece of text has its effect.
 pub record PieceLaws (m : Machine) : Type 0 where
-  pub of_data : (a b : List ℕ) → without_groups (data_taken b (data_taken a m)) ≡ without_groups (data_taken (a ++ b) m)
-  pub of_text : (a b : List ℕ) → without_groups (text_taken b (text_taken a m)) ≡ without_groups (text_taken (a ++ b) m)
-
--- ## Groups
-
--- a piece has room in its groups of four bytes, and in no fewer; an empty piece takes none, and two pieces at least as many as both at once
-pub record GroupLaws : Type 0 where
-  pub none : groups_of 0 ≡ 0
-  pub room : (b : ℕ) → b ≤ 4 * groups_of b
-  pub least : (b g : ℕ) → b ≤ 4 * g → groups_of b ≤ g
-  pub cut : (a b : ℕ) → groups_of (a + b) ≤ groups_of a + groups_of b
-
--- what a call adds to the machine's groups: those of its piece, data and text alike, where it is accepted; a begin and a close add none
-pub record CallGroups (m : Machine) : Type 0 where
-  pub of_begin : (key nonce : List ℕ) (n : ℕ) → (call m (begin key nonce n)).next.counts.groups ≡ m.counts.groups
-  pub of_data : (piece : List ℕ) → refusal m (data_call piece) ≡ accepted → (call m (data_call piece)).next.counts.groups ≡ m.counts.groups + groups_of (length piece)
-  pub of_seal_text : (piece out : List ℕ) → refusal m (seal_text piece out) ≡ accepted
-      → (call m (seal_text piece out)).next.counts.groups ≡ m.counts.groups + groups_of (length piece)
-  pub of_check_text : (piece : List ℕ) → refusal m (check_text piece) ≡ accepted
-      → (call m (check_text piece)).next.counts.groups ≡ m.counts.groups + groups_of (length piece)
-  pub of_seal_close : (out : List ℕ) → (call m (seal_close out)).next.counts.groups ≡ m.counts.groups
-  pub of_check_close : (tag : List ℕ) → (call m (check_close tag)).next.counts.groups ≡ m.counts.groups
-  pub of_refused : (c : Call) (n : ℕ) → refusal m c ≡ suc n → (call m c).next.counts.groups ≡ m.counts.groups
+  pub of_data : (a b : List ℕ) → data_taken b (data_taken a m) ≡ data_taken (a ++ b) m
+  pub of_text : (a b : List ℕ) → text_taken b (text_taken a m) ≡ text_taken (a ++ b) m
 
 -- ## The tag's length
 

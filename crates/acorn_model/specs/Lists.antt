@@ -1,11 +1,11 @@
 -- Document 01 on lists of calls: what a list amounts to, read off its calls, their answers and their outputs alone.
-use Rattle.std.specs.Prelude.{List, [], ◌∷◌, ◌++◌, ◌≡◌, ℕ, ◌+◌, eqb, length}
+use Rattle.std.specs.Prelude.{List, [], ◌∷◌, ◌++◌, ◌≡◌, ℕ, eqb}
 use Rattle.acorn_model.specs.declared.Kind.{Kind}
 use Rattle.acorn_model.specs.declared.Kind.TheVariants.{Sealing, Checking}
 use Rattle.acorn_model.specs.declared.Phase.TheVariants.{Closed}
 use Rattle.calls.specs.Calls.{◌if◌else◌, Reply, refused, done, Work}
 use Rattle.calls.specs.Lists.{Entry, if_accepted, written_by}
-use Rattle.acorn_model.specs.Machine.{Machine, Call, begin, data_call, seal_text, check_text, seal_close, check_close, groups_of}
+use Rattle.acorn_model.specs.Machine.{Machine, Call, begin, data_call, seal_text, check_text, seal_close, check_close}
 
 -- ## What one call brings, by its arguments
 
@@ -123,24 +123,3 @@ pub record Alike (kind : Kind) (a b : Log) : Type 0 where
   pub «data» : a.«data» ≡ b.«data»
   pub text : a.text ≡ b.text
   pub tags : SameTags kind a b
-
--- ## Pieces and groups
-
--- the length of the piece that a call brings, of data or of text
-unfoldable pub piece_of : Call → List ℕ
-piece_of (begin key nonce n) = []
-piece_of (data_call piece) = length piece ∷ []
-piece_of (seal_text piece out) = length piece ∷ []
-piece_of (check_text piece) = length piece ∷ []
-piece_of (seal_close out) = []
-piece_of (check_close tag) = []
-
--- the lengths of the pieces taken, in call order
-unfoldable pub pieces_taken : List (Entry Call Work) → List ℕ
-pieces_taken [] = []
-pieces_taken (e ∷ es) = if_accepted e.answer (piece_of e.call) ++ pieces_taken es
-
--- the groups of pieces of these lengths, each by itself
-unfoldable pub groups_of_pieces : List ℕ → ℕ
-groups_of_pieces [] = 0
-groups_of_pieces (b ∷ lengths) = groups_of b + groups_of_pieces lengths

@@ -1,6 +1,6 @@
--- Document 01, "The one-step machine and the session" and "What sends a call back", with document 02's P4 and P9: what the machine holds, its calls, the
+-- Document 01, "The one-step machine and the session" and "What sends a call back", with document 02's P4: what the machine holds, its calls, the
 -- numbers that send a call back, and what an accepted call does.
-use Rattle.std.specs.Prelude.{Bool, true, false, not, ◌&&◌, ◌||◌, List, [], ℕ, ◌+◌, ◌/◌, eqb, leb, ltb, length}
+use Rattle.std.specs.Prelude.{Bool, true, false, not, ◌&&◌, ◌||◌, List, [], ℕ, ◌+◌, eqb, leb, ltb, length}
 use Rattle.acorn_model.specs.declared.Kind.{Kind}
 use Rattle.acorn_model.specs.declared.Kind.TheVariants.{Sealing, Checking}
 use Rattle.acorn_model.specs.declared.Phase.{Phase}
@@ -11,28 +11,24 @@ use Rattle.acorn_model.specs.Stretches.{Stretch, full_tag_length, through, zeros
 
 -- ## What it holds
 
--- since it was fresh: the bytes of data and of text taken, the steps run, and the groups of the pieces taken
+-- the bytes of data and of text taken, and the steps run since it was fresh
 pub record Counts : Type 0 where
   pub data_bytes : ℕ
   pub text_bytes : ℕ
   pub steps : ℕ
-  pub groups : ℕ
 
 abbrev pub zero_counts : Counts
-zero_counts = record { data_bytes = 0; text_bytes = 0; steps = 0; groups = 0 }
+zero_counts = record { data_bytes = 0; text_bytes = 0; steps = 0 }
 
 -- one count is so much, and the others stay
 abbrev pub with_data_bytes : ℕ → Counts → Counts
-with_data_bytes n counts = record { data_bytes = n; text_bytes = counts.text_bytes; steps = counts.steps; groups = counts.groups }
+with_data_bytes n counts = record { data_bytes = n; text_bytes = counts.text_bytes; steps = counts.steps }
 
 abbrev pub with_text_bytes : ℕ → Counts → Counts
-with_text_bytes n counts = record { data_bytes = counts.data_bytes; text_bytes = n; steps = counts.steps; groups = counts.groups }
+with_text_bytes n counts = record { data_bytes = counts.data_bytes; text_bytes = n; steps = counts.steps }
 
 abbrev pub with_steps : ℕ → Counts → Counts
-with_steps n counts = record { data_bytes = counts.data_bytes; text_bytes = counts.text_bytes; steps = n; groups = counts.groups }
-
-abbrev pub with_groups : ℕ → Counts → Counts
-with_groups n counts = record { data_bytes = counts.data_bytes; text_bytes = counts.text_bytes; steps = counts.steps; groups = n }
+with_steps n counts = record { data_bytes = counts.data_bytes; text_bytes = counts.text_bytes; steps = n }
 
 -- its tag length is the bytes of the tag that its close writes or is given
 pub record Machine : Type 0 where
@@ -192,19 +188,11 @@ enter phase m = record { kind = m.kind; phase = phase; tag_length = m.tag_length
 unfoldable pub cleared : Machine → Machine
 cleared m = with_state zeros m
 
--- the groups that a piece of b bytes takes: b / 4, rounded up, so that an empty piece takes none
-abbrev pub groups_of : ℕ → ℕ
-groups_of b = (b + 3) / 4
-
--- a piece of n bytes is counted: its groups, by one rule for data and text, and its bytes
-abbrev pub count_groups : ℕ → Counts → Counts
-count_groups n counts = with_groups (counts.groups + groups_of n) counts
-
 unfoldable pub count_data : ℕ → Machine → Machine
-count_data n m = with_counts (count_groups n (with_data_bytes (m.counts.data_bytes + n) m.counts)) m
+count_data n m = with_counts (with_data_bytes (m.counts.data_bytes + n) m.counts) m
 
 unfoldable pub count_text : ℕ → Machine → Machine
-count_text n m = with_counts (count_groups n (with_text_bytes (m.counts.text_bytes + n) m.counts)) m
+count_text n m = with_counts (with_text_bytes (m.counts.text_bytes + n) m.counts) m
 
 -- begin: start runs, from all zeros, and the tag's length is fixed
 unfoldable pub begun : List ℕ → List ℕ → ℕ → Machine → Machine

@@ -74,26 +74,26 @@ module _ (P : Machine → Type 0) (by_begin : (m : Machine) (key nonce : List �
   abbrev OutcomeKeeps : Outcome PlainWriter Work → Type 0
   OutcomeKeeps o = P o.next.machine
 
-  on-answer-keeps : (a : Reply Work) (go_on : Work → Outcome PlainWriter Work) (w : PlainWriter) (out : List ℕ) → P w.machine → ((x : Work) → OutcomeKeeps (go_on x))
+  on-answer_keeps : (a : Reply Work) (go_on : Work → Outcome PlainWriter Work) (w : PlainWriter) (out : List ℕ) → P w.machine → ((x : Work) → OutcomeKeeps (go_on x))
       → OutcomeKeeps (on_answer a go_on w out)
   unfolding on_answer refused_with
-  on-answer-keeps (refused n) go_on w out h g = h
-  on-answer-keeps (done x) go_on w out h g = g x
+  on-answer_keeps (refused n) go_on w out h g = h
+  on-answer_keeps (done x) go_on w out h g = g x
 
-  writer_work-keeps : (w : PlainWriter) (c : WriterCall) → P w.machine → OutcomeKeeps (plain.work w c)
+  writer_work_keeps : (w : PlainWriter) (c : WriterCall) → P w.machine → OutcomeKeeps (plain.work w c)
   unfolding plain.work started passed_on
-  writer_work-keeps w (startCall key head out) h =
-      on-answer-keeps _ _ w out h (λ x. on-answer-keeps _ _ w out h (λ y. by-data _ _ (by_begin w.machine _ _ h)))
-  writer_work-keeps w (add ticket out) h = on-answer-keeps _ _ w out h (λ x. by-text w.machine _ _ h)
-  writer_work-keeps w (finish out) h = on-answer-keeps _ _ w out h (λ x. by_close w.machine _ h)
+  writer_work_keeps w (startCall key head out) h =
+      on-answer_keeps _ _ w out h (λ x. on-answer_keeps _ _ w out h (λ y. by-data _ _ (by_begin w.machine _ _ h)))
+  writer_work_keeps w (add ticket out) h = on-answer_keeps _ _ w out h (λ x. by-text w.machine _ _ h)
+  writer_work_keeps w (finish out) h = on-answer_keeps _ _ w out h (λ x. by_close w.machine _ h)
 
-  writer_call-keeps : (w : PlainWriter) (c : WriterCall) → P w.machine → OutcomeKeeps (writer_call w c)
+  writer_call_keeps : (w : PlainWriter) (c : WriterCall) → P w.machine → OutcomeKeeps (writer_call w c)
   unfolding writer_call refused_with
-  writer_call-keeps w c h =
-      by_number OutcomeKeeps (plain.refusal w c) (plain.work w c) (refused_with (plain.refusal w c) w (plain.output_of c)) (λ _. writer_work-keeps w c h) (λ _. h)
+  writer_call_keeps w c h =
+      by_number OutcomeKeeps (plain.refusal w c) (plain.work w c) (refused_with (plain.refusal w c) w (plain.output_of c)) (λ _. writer_work_keeps w c h) (λ _. h)
 
 pub writer_call_clear : (w : PlainWriter) (c : WriterCall) → Clear w.machine → Clear (writer_call w c).next.machine
-writer_call_clear = writer_call-keeps Clear (λ m key nonce. call_clear m _) (λ m piece. call_clear m _) (λ m piece out. call_clear m _) (λ m out. call_clear m _)
+writer_call_clear = writer_call_keeps Clear (λ m key nonce. call_clear m _) (λ m piece. call_clear m _) (λ m piece out. call_clear m _) (λ m out. call_clear m _)
 
 -- a writer's tag is full
 begun-full : (m : Machine) (key nonce : List ℕ) → m.tag_length ≡ tape_tag_length → (call m (begin key nonce tape_tag_length)).next.tag_length ≡ tape_tag_length
@@ -104,7 +104,7 @@ begun-full m key nonce h =
 
 pub writer_call-full : (w : PlainWriter) (c : WriterCall) → w.machine.tag_length ≡ tape_tag_length → (writer_call w c).next.machine.tag_length ≡ tape_tag_length
 writer_call-full =
-    writer_call-keeps (λ m. m.tag_length ≡ tape_tag_length) begun-full
+    writer_call_keeps (λ m. m.tag_length ≡ tape_tag_length) begun-full
     (λ m piece h. (tag-length-laws m).kept-by-data piece ∙ h) (λ m piece out h. (tag-length-laws m).kept-by_sealing piece out ∙ h) (λ m out h. (tag-length-laws m).kept-by_seal_close out ∙ h)
 
 pub writer_for : PlainWriter → Writer

@@ -8,7 +8,7 @@ use lib.ListN.{length}
 use Rattle.tape_model.specs.declared.Ticket.{Ticket}
 use Rattle.pairing.specs.Pairing.{fits, Pair, firsts, seconds, AllFit, KeepsRules, paired, times_fall}
 use Rattle.pairing.proofs.Rules.{fits_means, means_fits, none_has_more}
-use Rattle.pairing.proofs.Leftovers.{keeps-rules}
+use Rattle.pairing.proofs.Leftovers.{keeps_rules}
 
 -- the pairs with first and second exchanged
 abbrev turned : List Pair → List Pair
@@ -46,13 +46,13 @@ module _ (ts us : List Ticket) where
   turned-fit [] f = tt
   turned-fit (x ∷ pairs) f = (fits-turned x.first x.second f.0, turned-fit pairs f.1)
 
-  turned-keeps : (pairs : List Pair) → KeepsRules ts us pairs → KeepsRules us ts (turned pairs)
-  turned-keeps pairs k =
+  turned_keeps : (pairs : List Pair) → KeepsRules ts us pairs → KeepsRules us ts (turned pairs)
+  turned_keeps pairs k =
       record { fit = turned-fit pairs k.fit; once-first = rw turned-firsts k.once-second; once-second = rw turned-seconds k.once-first }
 
   at_most : times_fall ts ≡ false → times_fall us ≡ false → length (paired ts us).pairs ≤ length (paired us ts).pairs
   at_most e e' =
-      let h = none_has_more us ts e' e (turned (paired ts us).pairs) (turned-keeps (paired ts us).pairs (keeps-rules ts us)) in
+      let h = none_has_more us ts e' e (turned (paired ts us).pairs) (turned_keeps (paired ts us).pairs (keeps_rules ts us)) in
       omega (arith, turned-length (paired ts us).pairs)
 
 pub exchanged : (ts us : List Ticket) → times_fall ts ≡ false → times_fall us ≡ false → length (paired us ts).pairs ≡ length (paired ts us).pairs

@@ -175,8 +175,8 @@ module _ (ts us : List Ticket) where
   pub second_order : RisingFrom 1 (paired ts us).left_second
   second_order = rising_rest all_given.second 1 (rising_positions (length us) 1)
 
-  pub keeps-rules : KeepsRules ts us (paired ts us).pairs
-  keeps-rules =
+  pub keeps_rules : KeepsRules ts us (paired ts us).pairs
+  keeps_rules =
       record {
         fit = all_given.all_fit;
         once-first = rising_distinct (firsts (paired ts us).pairs) 1 pairs_order;

@@ -3,7 +3,7 @@ use Rattle.pairing.specs.Laws.{PairingLaws}
 use Rattle.pairing.proofs.Times.{falls, forms}
 use Rattle.pairing.proofs.Rules.{fits_means, means_fits, none_has_more}
 use Rattle.pairing.proofs.FirstFree.{the_one}
-use Rattle.pairing.proofs.Leftovers.{keeps-rules, each_of_first, each_of_second, pairs_order, first_order, second_order, first_sum, second_sum, room}
+use Rattle.pairing.proofs.Leftovers.{keeps_rules, each_of_first, each_of_second, pairs_order, first_order, second_order, first_sum, second_sum, room}
 use Rattle.pairing.proofs.Exchanged.{exchanged}
 use Rattle.pairing.proofs.Mirrored.{mirrored}
 use Rattle.pairing.proofs.Opened.{opened-laws, packed}
@@ -13,7 +13,7 @@ pub pairing_laws : PairingLaws
 pairing_laws =
     record {
       pairings = λ ts us. record {
-        keeps-rules = keeps-rules ts us;
+        keeps_rules = keeps_rules ts us;
         none_has_more = none_has_more ts us;
         the_one = the_one ts us;
         each_of_first = each_of_first ts us;

@@ -56,7 +56,7 @@ pub record Falls (ts : List Ticket) : Type 0 where
 -- ## The pairing
 
 pub record PairedLaws (ts us : List Ticket) : Type 0 where
-  pub keeps-rules : KeepsRules ts us (paired ts us).pairs
+  pub keeps_rules : KeepsRules ts us (paired ts us).pairs
   -- where no times fall, no pairing that keeps the rules has more pairs
   pub none_has_more : times_fall ts ≡ false → times_fall us ≡ false → (pairs : List Pair) → KeepsRules ts us pairs → length pairs ≤ length (paired ts us).pairs
   -- a list of pairs is the one that document 02 names exactly where it is this one

@@ -11,7 +11,7 @@ use Rattle.acorn_model.specs.Machine.{Machine, with_steps, with_state, with_coun
 use Rattle.acorn_kernel.specs.declared.State.{State}
 use Rattle.acorn_kernel.specs.Together.{state_of}
 use Rattle.session.specs.declared.Session.{Session}
-use Rattle.session.specs.Clauses.{length_of, machine_of, wrapped, wrapped_machine, counted_session, ended_state, data_end_steps}
+use Rattle.session.specs.Clauses.{length_of, machine_of, wrapped, wrapped_machine, ended_state, data_end_steps}
 
 -- a length that a tag may have stands for itself, and every other stands for one, too
 pub length-of : (n : ℕ) → tag_length_right n ≡ true → length_of n ≡ n
@@ -32,15 +32,15 @@ length_of_right n = by (tag_length_right n) refl
 
 -- field by field
 pub stands_for : (z : Session) (m : Machine) → z.kind ≡ m.kind → z.phase ≡ m.phase → length_of z.tag_length ≡ m.tag_length → state_of z.state ≡ m.state
-    → z.data_bytes ≡ m.counts.data_bytes → z.text_bytes ≡ m.counts.text_bytes → z.steps ≡ wrapped m.counts.steps → z.groups ≡ wrapped m.counts.groups
+    → z.data_bytes ≡ m.counts.data_bytes → z.text_bytes ≡ m.counts.text_bytes → z.steps ≡ wrapped m.counts.steps
     → machine_of z ≡ wrapped_machine m
 unfolding machine_of wrapped_machine
-stands_for z m kind phase tag_length state data_bytes text_bytes steps groups = λ i. record {
+stands_for z m kind phase tag_length state data_bytes text_bytes steps = λ i. record {
   kind = kind i;
   phase = phase i;
   tag_length = tag_length i;
   state = state i;
-  counts = record { data_bytes = data_bytes i; text_bytes = text_bytes i; steps = steps i; groups = groups i };
+  counts = record { data_bytes = data_bytes i; text_bytes = text_bytes i; steps = steps i };
 }
 
 -- ## The data end
@@ -70,29 +70,24 @@ module _ (m : Machine) where
 
 -- ## Text and close
 
-module _ (s : Session) (state : State) (k : ℕ) (e : k ≡ data_end_steps s.phase) (z : Session) where
-  -- the session z with another state, these bytes of text, and in this phase
-  abbrev moved_to : ℕ → Phase → Session
-  moved_to text_bytes phase =
-      record { state = state; data_bytes = z.data_bytes; text_bytes = text_bytes; steps = z.steps; groups = z.groups; kind = z.kind; phase = phase; tag_length = z.tag_length }
-
-  pub text_session : (piece : List ℕ) → state_of state ≡ (text_taken piece (machine_of s)).state → z ≡ counted_session s (k + 8 * length piece) (length piece)
-      → machine_of (moved_to (s.text_bytes + length piece) Text) ≡ wrapped_machine (text_taken piece (machine_of s))
+module _ (s : Session) (state : State) (k n : ℕ) (e : k ≡ data_end_steps s.phase) where
+  pub text_session : (piece : List ℕ) → state_of state ≡ (text_taken piece (machine_of s)).state → n ≡ (s.steps + (k + 8 * length piece)) % 2 ^ 64
+      → machine_of (record { state = state; data_bytes = s.data_bytes; text_bytes = s.text_bytes + length piece; steps = n; kind = s.kind; phase = Text; tag_length = s.tag_length })
+      ≡ wrapped_machine (text_taken piece (machine_of s))
   unfolding text_taken count_text enter run_through machine_of wrapped
   text_session piece h f =
-      stands_for _ (after (ended_if (machine_of s) (is_data s.phase))) (λ i. (f i).kind) refl (λ i. length_of (f i).tag_length)
-      (h ∙ ap (λ (m : Machine). (after m).state) (data-ended (machine_of s))) (λ i. (f i).data_bytes) refl
-      ((λ i. (f i).steps) ∙ omega arith) (λ i. (f i).groups)
+      stands_for _ (after (ended_if (machine_of s) (is_data s.phase))) refl refl refl (h ∙ ap (λ (m : Machine). (after m).state) (data-ended (machine_of s))) refl refl (omega arith)
       ∙ ap (λ (m : Machine). wrapped_machine (after m)) (sym (data-ended (machine_of s)))
     where
       after : Machine → Machine
       after m = enter Text (count_text (length piece) (run_through (text_piece (is_checking s.kind) piece) m))
 
-  pub closed_session : state_of state ≡ zeros → z ≡ counted_session s (k + 1024) 0 → machine_of (moved_to z.text_bytes Closed) ≡ wrapped_machine (closed (machine_of s))
+  pub closed_session : state_of state ≡ zeros → n ≡ (s.steps + (k + 1024)) % 2 ^ 64
+      → machine_of (record { state = state; data_bytes = s.data_bytes; text_bytes = s.text_bytes; steps = n; kind = s.kind; phase = Closed; tag_length = s.tag_length })
+      ≡ wrapped_machine (closed (machine_of s))
   unfolding closed text_ended cleared enter run_through machine_of wrapped
   closed_session h f =
-      stands_for _ (after (ended_if (machine_of s) (is_data s.phase))) (λ i. (f i).kind) refl (λ i. length_of (f i).tag_length) h (λ i. (f i).data_bytes) (λ i. (f i).text_bytes)
-      ((λ i. (f i).steps) ∙ omega arith) ((λ i. (f i).groups) ∙ omega arith)
+      stands_for _ (after (ended_if (machine_of s) (is_data s.phase))) refl refl refl h refl refl (omega arith)
       ∙ ap (λ (m : Machine). wrapped_machine (after m)) (sym (data-ended (machine_of s)))
     where
       after : Machine → Machine

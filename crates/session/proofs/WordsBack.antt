@@ -14,7 +14,7 @@ use Rattle.acorn_kernel.proofs.StateWords.{at0, at1, at2, at3, at4, at5, at_abov
 use Rattle.session.specs.declared.Session.{Session}
 use Rattle.session.specs.Clauses.{length_of, machine_of}
 use Rattle.session.proofs.NextSession.{length-of, length_of_right}
-use Rattle.session.specs.Words.{kind_phase_number, kind_in, phase_in, first_eleven, words_of, session_in, machine_in, state_for, session_for, words_for}
+use Rattle.session.specs.Words.{kind_phase_number, kind_in, phase_in, first_ten, words_of, session_in, machine_in, state_for, session_for, words_for}
 
 -- ## The words that a session holds
 
@@ -39,7 +39,7 @@ phase_back Checking Text = refl
 phase_back Checking Closed = refl
 
 machine_back : (s : Session) → tag_length_right s.tag_length ≡ true → machine_in (words_of s) ≡ machine_of s
-unfolding machine_in machine_of session_in words_of first_eleven
+unfolding machine_in machine_of session_in words_of first_ten
 machine_back s right =
     let k = kind_back s.kind s.phase in
     let p = phase_back s.kind s.phase in
@@ -98,8 +98,8 @@ pub words_are : (s : Session) (n k : ℕ) → n ≡ kind_phase_number s.kind s.p
     ∷ (s.state.w3 - s.state.w3 % 2 ^ 25)
     ∷ (s.state.w4 - s.state.w4 % 2 ^ 27)
     ∷ (s.state.w5 - s.state.w5 % 2 ^ 1)
-    ∷ s.data_bytes ∷ s.text_bytes ∷ s.steps ∷ s.groups ∷ n ∷ k ∷ [] ≡ words_for (machine_of s)
-unfolding words_for session_for state_for words_of first_eleven machine_of
+    ∷ s.data_bytes ∷ s.text_bytes ∷ s.steps ∷ n ∷ k ∷ [] ≡ words_for (machine_of s)
+unfolding words_for session_for state_for words_of first_ten machine_of
 words_are s n k e l h0 h1 h2 h3 h4 h5 =
     let S = state_of s.state in
     rw (

@@ -1,11 +1,11 @@
--- Counts that wrap around at 2 ^ 64. A call on a machine whose counts wrapped around comes to the same once every count wraps around
--- (`wrapped-call`); an outcome whose counts are below 2 ^ 64 stays as it is (`call-within`), and what a session's call comes to is then what the
+-- Counts that wrap around at 2 ^ 64. A call on a machine whose count wrapped around comes to the same once every count wraps around
+-- (`wrapped-call`); an outcome whose count is below 2 ^ 64 stays as it is (`call-within`), and what a session's call comes to is then what the
 -- machine does.
 use Rattle.std.proofs.Common.{◌≡◌, ℕ, zero, suc, ◌+◌, ◌%◌, ◌^◌, ◌<◌, Bool, true, false, List, [], length, sym, refl, ap, ◌∙◌, ap₂, mod-eq_of_lt, arith, ne_eqb}
 use Rattle.acorn_model.specs.declared.Phase.TheVariants.{Data, Text, Closed}
 use Rattle.calls.specs.Calls.{◌if◌else◌, Work, unless_refused, left_unchanged, same_bytes, Outcome, refused_with}
 use Rattle.acorn_model.specs.Stretches.{Stretch, through, start, data_piece, data_end, text_piece, text_end, final, text_out, tag_bytes}
-use Rattle.acorn_model.specs.Machine.{Machine, with_tag_length, with_data_bytes, with_text_bytes, with_steps, with_groups, with_state, with_counts, groups_of, Call, begin, data_call, seal_text, check_text, seal_close, check_close, output_of, is_checking, is_data, phase_allows, sizes_right, over_limit, output_short, refusal, run_through, enter, cleared, count_data, count_text, begun, data_taken, data_ended, text_taken, text_ended, closed, answered, wrote, verdict, work, call}
+use Rattle.acorn_model.specs.Machine.{Machine, with_tag_length, with_steps, with_state, with_counts, Call, begin, data_call, seal_text, check_text, seal_close, check_close, output_of, is_checking, is_data, phase_allows, sizes_right, over_limit, output_short, refusal, run_through, enter, cleared, count_data, count_text, begun, data_taken, data_ended, text_taken, text_ended, closed, answered, wrote, verdict, work, call}
 use Rattle.session.specs.declared.Session.{Session}
 use Rattle.session.specs.declared.Reply.{Reply as SessionReply}
 use Rattle.session.specs.Clauses.{machine_of, session_outcome, wrapped, wrapped_machine, wrapped_reply, wrapped_outcome, Called}
@@ -58,32 +58,16 @@ wrapped_add n k = omega arith
 
 wrapped-twice : (m : Machine) → wrapped_machine (wrapped_machine m) ≡ wrapped_machine m
 unfolding wrapped_machine wrapped
-wrapped-twice m =
-    let e : m.counts.steps % 2 ^ 64 % 2 ^ 64 ≡ m.counts.steps % 2 ^ 64 = omega arith in
-    let f : m.counts.groups % 2 ^ 64 % 2 ^ 64 ≡ m.counts.groups % 2 ^ 64 = omega arith in
-    rw (e, f)
-
--- a count to which so much is added, in both
-same_add : (a b k : ℕ) → wrapped a ≡ wrapped b → wrapped (a + k) ≡ wrapped (b + k)
-same_add a b k e = sym (wrapped_add a k) ∙ ap (λ (n : ℕ). wrapped (n + k)) e ∙ wrapped_add b k
+wrapped-twice m = let e : m.counts.steps % 2 ^ 64 % 2 ^ 64 ≡ m.counts.steps % 2 ^ 64 = omega arith in rw e
 
 runs : (stretch : Stretch) (a b : Machine) → wrapped_machine a ≡ wrapped_machine b → wrapped_machine (run_through stretch a) ≡ wrapped_machine (run_through stretch b)
 unfolding wrapped_machine run_through
-runs stretch a b e = λ i.
-    with_counts (with_steps (same_add a.counts.steps b.counts.steps stretch.steps (λ j. (e j).counts.steps) i) (e i).counts) (with_state (through stretch (e i).state) (e i))
-
--- a piece of n bytes is counted, of data or of text
-module _ (n : ℕ) (a b : Machine) (e : wrapped_machine a ≡ wrapped_machine b) where
-  same_groups : wrapped (a.counts.groups + groups_of n) ≡ wrapped (b.counts.groups + groups_of n)
-  same_groups = same_add a.counts.groups b.counts.groups (groups_of n) (unfold wrapped_machine in λ i. (e i).counts.groups)
-
-  counts-data : wrapped_machine (count_data n a) ≡ wrapped_machine (count_data n b)
-  unfolding wrapped_machine count_data
-  counts-data = λ i. with_counts (with_groups (same_groups i) (with_data_bytes ((e i).counts.data_bytes + n) (e i).counts)) (e i)
-
-  counts-text : wrapped_machine (count_text n a) ≡ wrapped_machine (count_text n b)
-  unfolding wrapped_machine count_text
-  counts-text = λ i. with_counts (with_groups (same_groups i) (with_text_bytes ((e i).counts.text_bytes + n) (e i).counts)) (e i)
+runs stretch a b e = λ i. with_counts (with_steps (steps i) (e i).counts) (with_state (through stretch (e i).state) (e i))
+  where
+    steps : wrapped (a.counts.steps + stretch.steps) ≡ wrapped (b.counts.steps + stretch.steps)
+    steps =
+        sym (wrapped_add a.counts.steps stretch.steps) ∙ ap (λ (m : Machine). wrapped (m.counts.steps + stretch.steps)) e
+        ∙ wrapped_add b.counts.steps stretch.steps
 
 module _ (a b : Machine) (e : wrapped_machine a ≡ wrapped_machine b) where
   same-refusal : (c : Call) → refusal a c ≡ refusal b c
@@ -100,8 +84,8 @@ module _ (a b : Machine) (e : wrapped_machine a ≡ wrapped_machine b) where
   same-begun key nonce n = ap (λ (m : Machine). with_tag_length n (enter Data m)) (runs (start key nonce) (cleared a) (cleared b) (ap cleared e))
 
   same-data : (piece : List ℕ) → wrapped_machine (data_taken piece a) ≡ wrapped_machine (data_taken piece b)
-  unfolding data_taken
-  same-data piece = counts-data (length piece) _ _ (runs (data_piece piece) a b e)
+  unfolding wrapped_machine data_taken count_data
+  same-data piece = ap (count_data (length piece)) (runs (data_piece piece) a b e)
 
   same_ended : wrapped_machine (data_ended a) ≡ wrapped_machine (data_ended b)
   unfolding wrapped_machine data_ended
@@ -112,11 +96,11 @@ module _ (a b : Machine) (e : wrapped_machine a ≡ wrapped_machine b) where
       by false = e
 
   same_text : (piece : List ℕ) → wrapped_machine (text_taken piece a) ≡ wrapped_machine (text_taken piece b)
-  unfolding wrapped_machine text_taken enter
+  unfolding wrapped_machine text_taken count_text enter
   same_text piece =
-      ap (λ (m : Machine). enter Text m)
-      (counts-text (length piece) _ _ (runs (text_piece (is_checking a.kind) piece) (data_ended a) (data_ended b) same_ended
-      ∙ ap (λ (m : Machine). wrapped_machine (run_through (text_piece (is_checking m.kind) piece) (data_ended b))) e))
+      ap (λ (m : Machine). enter Text (count_text (length piece) m))
+      (runs (text_piece (is_checking a.kind) piece) (data_ended a) (data_ended b) same_ended
+      ∙ ap (λ (m : Machine). wrapped_machine (run_through (text_piece (is_checking m.kind) piece) (data_ended b))) e)
 
   same-text_ended : wrapped_machine (text_ended a) ≡ wrapped_machine (text_ended b)
   unfolding text_ended
@@ -159,18 +143,14 @@ wrapped-call m c = same-call (wrapped_machine m) m (wrapped-twice m) c
 
 -- ## Counts that do not wrap around
 
--- steps and groups are below 2 ^ 64
-abbrev pub SmallCounts : Machine → Type 0
-SmallCounts m = (m.counts.steps < 2 ^ 64) × (m.counts.groups < 2 ^ 64)
-
-pub within : (m : Machine) → SmallCounts m → wrapped_machine m ≡ m
+pub within : (m : Machine) → m.counts.steps < 2 ^ 64 → wrapped_machine m ≡ m
 unfolding wrapped_machine wrapped
-within m h = rw (mod-eq_of_lt h.0, mod-eq_of_lt h.1)
+within m h = rw (mod-eq_of_lt h)
 
-wrote-within : (written out : List ℕ) (m : Machine) → SmallCounts m → all_wrapped (wrote written m out) ≡ wrote written m out
+wrote-within : (written out : List ℕ) (m : Machine) → m.counts.steps < 2 ^ 64 → all_wrapped (wrote written m out) ≡ wrote written m out
 wrote-within written out m h = wrote_all written out m ∙ ap (λ (x : Machine). wrote written x out) (within m h)
 
-work-within : (m : Machine) (c : Call) → SmallCounts (work m c).next → all_wrapped (work m c) ≡ work m c
+work-within : (m : Machine) (c : Call) → (work m c).next.counts.steps < 2 ^ 64 → all_wrapped (work m c) ≡ work m c
 unfolding work wrote
 work-within m (begin key nonce n) h = wrote-within _ [] _ h
 work-within m (data_call piece) h = wrote-within _ [] _ h
@@ -179,14 +159,14 @@ work-within m (check_text piece) h = wrote-within _ [] _ h
 work-within m (seal_close out) h = wrote-within _ out _ h
 work-within m (check_close tag) h = judged_all _ (closed m) ∙ ap (judged _) (within (closed m) h)
 
-unless_refused-within : (n : ℕ) (m : Machine) (c : Call) → SmallCounts (unless_refused n (work m c) (refused_with n m (output_of c))).next
+unless_refused-within : (n : ℕ) (m : Machine) (c : Call) → (unless_refused n (work m c) (refused_with n m (output_of c))).next.counts.steps < 2 ^ 64
     → all_wrapped (unless_refused n (work m c) (refused_with n m (output_of c))) ≡ unless_refused n (work m c) (refused_with n m (output_of c))
 unfolding unless_refused refused_with
 unless_refused-within zero m c h = work-within m c h
 unless_refused-within (suc n) m c h = refused_all (suc n) (output_of c) m ∙ ap (λ (x : Machine). refused_with (suc n) x (output_of c)) (within m h)
 
--- an outcome whose counts are below 2 ^ 64
-pub call-within : (m : Machine) (c : Call) → SmallCounts (call m c).next → wrapped_outcome (call m c) ≡ call m c
+-- an outcome whose count is below 2 ^ 64
+pub call-within : (m : Machine) (c : Call) → (call m c).next.counts.steps < 2 ^ 64 → wrapped_outcome (call m c) ≡ call m c
 unfolding wrapped_outcome
 call-within m c h = either (left_unchanged (call m c).answer) (call m c) (unfold call in unless_refused-within (refusal m c) m c h)
   where
@@ -197,7 +177,7 @@ call-within m c h = either (left_unchanged (call m c).answer) (call m c) (unfold
 
 -- ## What a session's call comes to
 
--- on a session that stands for a machine, where the counts stay below 2 ^ 64
-pub called-within : (s : Session) (c : Call) (r : SessionReply) (out : List ℕ) (m : Machine) → machine_of s ≡ m → SmallCounts (call m c).next → Called s c r out
+-- on a session that stands for a machine, where the count stays below 2 ^ 64
+pub called-within : (s : Session) (c : Call) (r : SessionReply) (out : List ℕ) (m : Machine) → machine_of s ≡ m → (call m c).next.counts.steps < 2 ^ 64 → Called s c r out
     → session_outcome r out ≡ call m c
 called-within s c r out m e l h = h ∙ ap (λ (x : Machine). wrapped_outcome (call x c)) e ∙ call-within m c l

@@ -1,11 +1,11 @@
 -- How a session is held against document 01's machine: the one equation that every method's contract is.
-use Rattle.std.specs.Prelude.{◌≡◌, ℕ, ◌+◌, ◌%◌, ◌^◌, List}
+use Rattle.std.specs.Prelude.{◌≡◌, ℕ, ◌%◌, ◌^◌, List}
 use Rattle.acorn_model.specs.declared.Phase.{Phase}
 use Rattle.calls.specs.declared.Answer.TheVariants.{Refused, Done}
 use Rattle.acorn_model.specs.Bits.{Bits}
 use Rattle.calls.specs.Calls.{◌if◌else◌, Reply, refused, done, Work, left_unchanged, Outcome, answer_reply}
 use Rattle.acorn_model.specs.Stretches.{full_tag_length, through, data_end}
-use Rattle.acorn_model.specs.Machine.{Machine, with_steps, with_groups, with_counts, Call, tag_length_right, is_data, groups_of, text_taken, call}
+use Rattle.acorn_model.specs.Machine.{Machine, with_steps, with_counts, Call, tag_length_right, is_data, text_taken, call}
 use Rattle.acorn_kernel.specs.declared.State.{State}
 use Rattle.acorn_kernel.specs.Together.{state_of}
 use Rattle.session.specs.declared.Session.{Session}
@@ -23,7 +23,7 @@ machine_of s =
       phase = s.phase;
       tag_length = length_of s.tag_length;
       state = state_of s.state;
-      counts = record { data_bytes = s.data_bytes; text_bytes = s.text_bytes; steps = s.steps; groups = s.groups };
+      counts = record { data_bytes = s.data_bytes; text_bytes = s.text_bytes; steps = s.steps };
     }
 
 -- what a call's reply, and its output after it, come to
@@ -32,13 +32,13 @@ session_outcome r out = record { next = machine_of r.session; answer = answer_re
 
 -- ## Counting in 64 bits
 
--- A session's counts of steps and of groups wrap around at 2 ^ 64. A session that was fresh comes nowhere near, but a value of the struct may hold any
--- counts. A refused call, but for one with 7, changes nothing, and so not the counts.
+-- A session's count of steps wraps around at 2 ^ 64. A session that was fresh comes nowhere near, but a value of the struct may hold any count.
+-- A refused call, but for one with 7, changes nothing, and so not the count.
 unfoldable pub wrapped : ℕ → ℕ
 wrapped n = n % 2 ^ 64
 
 unfoldable pub wrapped_machine : Machine → Machine
-wrapped_machine m = with_counts (with_steps (wrapped m.counts.steps) (with_groups (wrapped m.counts.groups) m.counts)) m
+wrapped_machine m = with_counts (with_steps (wrapped m.counts.steps) m.counts) m
 
 unfoldable pub wrapped_reply : Reply Work → Reply Work
 wrapped_reply (refused n) = refused n
@@ -61,20 +61,6 @@ refused_reply number s = record { answer = Refused number; session = s }
 
 abbrev pub done_reply : ℕ → Session → SessionReply
 done_reply bytes s = record { answer = Done bytes s.steps; session = s }
-
--- the session with so many steps more and, of a piece of so many bytes, its groups
-abbrev pub counted_session : Session → ℕ → ℕ → Session
-counted_session s steps piece =
-    record {
-      state = s.state;
-      data_bytes = s.data_bytes;
-      text_bytes = s.text_bytes;
-      steps = wrapped (s.steps + steps);
-      groups = wrapped (s.groups + groups_of piece);
-      kind = s.kind;
-      phase = s.phase;
-      tag_length = s.tag_length;
-    }
 
 -- the state after the data end, which text and close run first where the phase is data, and the steps of that
 unfoldable pub ended_state : Phase → Bits → Bits

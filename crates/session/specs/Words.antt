@@ -1,4 +1,4 @@
--- A session in twelve words, for callers that cannot hold the struct. Any twelve words stand for a session.
+-- A session in eleven words, for callers that cannot hold the struct. Any eleven words stand for a session.
 use Rattle.std.specs.Prelude.{ℕ, ◌+◌, ◌*◌, ◌%◌, ◌^◌, ◌||◌, List, [], ◌∷◌, ◌++◌, ◌==◌, nat_eq, nat_lt, slice_index}
 use Rattle.acorn_model.specs.declared.Kind.{Kind}
 use Rattle.acorn_model.specs.declared.Kind.TheVariants.{Sealing, Checking}
@@ -33,11 +33,11 @@ phase_in n =
     Text if n == 2 || nat_eq n 6 else
     Closed
 
--- ## The twelve words
+-- ## The eleven words
 
--- the state's six, the bytes of data and of text, the steps, the groups, the number of kind and phase
-unfoldable pub first_eleven : Session → List ℕ
-first_eleven s =
+-- the state's six, the bytes of data and of text, the steps, the number of kind and phase
+unfoldable pub first_ten : Session → List ℕ
+first_ten s =
     s.state.w0
     ∷ s.state.w1
     ∷ s.state.w2
@@ -47,13 +47,12 @@ first_eleven s =
     ∷ s.data_bytes
     ∷ s.text_bytes
     ∷ s.steps
-    ∷ s.groups
     ∷ kind_phase_number s.kind s.phase
     ∷ []
 
 -- and the tag's length
 unfoldable pub words_of : Session → List ℕ
-words_of s = first_eleven s ++ (s.tag_length ∷ [])
+words_of s = first_ten s ++ (s.tag_length ∷ [])
 
 unfoldable pub session_in : List ℕ → Session
 session_in words =
@@ -69,13 +68,12 @@ session_in words =
       data_bytes = slice_index words 6;
       text_bytes = slice_index words 7;
       steps = slice_index words 8;
-      groups = slice_index words 9;
-      kind = kind_in (slice_index words 10);
-      phase = phase_in (slice_index words 10);
-      tag_length = slice_index words 11 % 256;
+      kind = kind_in (slice_index words 9);
+      phase = phase_in (slice_index words 9);
+      tag_length = slice_index words 10 % 256;
     }
 
--- the machine that twelve words stand for
+-- the machine that eleven words stand for
 unfoldable pub machine_in : List ℕ → Machine
 machine_in words = machine_of (session_in words)
 
@@ -100,12 +98,11 @@ session_for m =
       data_bytes = m.counts.data_bytes;
       text_bytes = m.counts.text_bytes;
       steps = m.counts.steps;
-      groups = m.counts.groups;
       kind = m.kind;
       phase = m.phase;
       tag_length = m.tag_length;
     }
 
--- the twelve words that are stored for a machine
+-- the eleven words that are stored for a machine
 unfoldable pub words_for : Machine → List ℕ
 words_for m = words_of (session_for m)

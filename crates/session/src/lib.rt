@@ -7,7 +7,7 @@ mod words;
 ghost use Rattle.std.specs.Prelude.{◌≡◌, ◌+◌, ◌≤◌, [], length};
 ghost use Rattle.acorn_model.specs.Stretches.{full_tag_length};
 ghost use Rattle.acorn_model.specs.Machine as machine;
-ghost use Rattle.session.specs.Clauses.{machine_of, wrapped_machine, Called, refused_reply, done_reply, counted_session, TextTaken};
+ghost use Rattle.session.specs.Clauses.{machine_of, wrapped_machine, Called, refused_reply, done_reply, TextTaken};
 
 use acorn::{State, absorb_data, is_tag_bytes, start, tag_length_right, write_tag_bytes, zeros};
 use acorn_model::{CLOSE_STEPS, KEY_LENGTH, Kind, NONCE_LENGTH, Phase, START_STEPS, TAG_LENGTH};
@@ -22,7 +22,6 @@ pub struct Session {
     data_bytes: u64,
     text_bytes: u64,
     steps: u64,
-    groups: u64,
     phase: Phase,
     kind: Kind,
     tag_length: u8,
@@ -45,7 +44,6 @@ impl Session {
             data_bytes: 0,
             text_bytes: 0,
             steps: 0,
-            groups: 0,
             kind,
             phase: Phase::Fresh,
             tag_length: TAG_LENGTH as u8,
@@ -58,13 +56,6 @@ impl Session {
     {
         let phase = self.phase;
         is_text(phase)
-    }
-
-    // The groups of the pieces taken since the session was fresh: of each piece a fourth of its bytes, rounded up.
-    pub fn groups(self) -> u64
-        ensures { result ≡ (machine_of self).counts.groups }
-    {
-        self.groups
     }
 
     // A call is sent back, or its tag was wrong.
@@ -84,20 +75,6 @@ impl Session {
         Reply {
             answer: Answer::Done(bytes, self.steps),
             session: self,
-        }
-    }
-
-    // The steps of a call are counted, and the groups of its piece, of so many bytes; 0 where it brings none.
-    fn counted(self, steps: u64, piece: u64) -> Session
-        requires { piece ≤ machine.byte_limit }
-        ensures { result ≡ counted_session self steps piece }
-    {
-        let steps = wrapping_add_u64(self.steps, steps);
-        let groups = wrapping_add_u64(self.groups, (piece + 3) / 4);
-        Session {
-            steps,
-            groups,
-            ..self
         }
     }
 
@@ -125,13 +102,14 @@ impl Session {
             return self.refused(2);
         }
         let started = start(key, nonce);
-        let counted = self.counted(START_STEPS, 0);
+        let steps = wrapping_add_u64(self.steps, START_STEPS);
         let fixed = tag_length as u8;
         let begun = Session {
             state: started,
+            steps,
             phase: Phase::Data,
             tag_length: fixed,
-            ..counted
+            ..self
         };
         begun.done(0)
     }
@@ -159,11 +137,12 @@ impl Session {
         let absorbed = absorb_data(held, piece);
         let n = piece.len() as u64;
         let data_bytes = taken + n;
-        let counted = self.counted(8 * n, n);
+        let steps = wrapping_add_u64(self.steps, 8 * n);
         let next = Session {
             state: absorbed,
             data_bytes,
-            ..counted
+            steps,
+            ..self
         };
         next.done(0)
     }
@@ -176,12 +155,13 @@ impl Session {
         let phase = self.phase;
         let n = piece.len() as u64;
         let text_bytes = self.text_bytes + n;
-        let counted = self.counted(data_end_steps(phase) + 8 * n, n);
+        let steps = wrapping_add_u64(self.steps, data_end_steps(phase) + 8 * n);
         Session {
             state,
             text_bytes,
+            steps,
             phase: Phase::Text,
-            ..counted
+            ..self
         }
     }
 
@@ -261,11 +241,12 @@ impl Session {
         ensures { machine_of result ≡ wrapped_machine (machine.closed (machine_of self)) }
     {
         let phase = self.phase;
-        let counted = self.counted(data_end_steps(phase) + CLOSE_STEPS, 0);
+        let steps = wrapping_add_u64(self.steps, data_end_steps(phase) + CLOSE_STEPS);
         Session {
             state: zeros(),
+            steps,
             phase: Phase::Closed,
-            ..counted
+            ..self
         }
     }
 

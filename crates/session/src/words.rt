@@ -1,4 +1,4 @@
-// A session in twelve words, for callers that cannot hold the struct. Any twelve words are read as some session.
+// A session in eleven words, for callers that cannot hold the struct. Any eleven words are read as some session.
 ghost use Rattle.std.specs.Prelude.{◌≡◌};
 ghost use Rattle.session.specs.Clauses.{machine_of};
 ghost use Rattle.session.specs.Words.{kind_phase_number, kind_in, phase_in, session_in, words_for};
@@ -49,8 +49,8 @@ fn phase_in(n: u64) -> Phase
 }
 
 impl Session {
-    // The session that twelve words hold.
-    pub fn from_words(words: &[u64; 12]) -> Session
+    // The session that eleven words hold.
+    pub fn from_words(words: &[u64; 11]) -> Session
         ensures { result ≡ session_in words.now }
     {
         Session {
@@ -65,16 +65,15 @@ impl Session {
             data_bytes: words[6],
             text_bytes: words[7],
             steps: words[8],
-            groups: words[9],
-            kind: kind_in(words[10]),
-            phase: phase_in(words[10]),
-            tag_length: (words[11] % 256) as u8,
+            kind: kind_in(words[9]),
+            phase: phase_in(words[9]),
+            tag_length: (words[10] % 256) as u8,
         }
     }
 
     // The words of a session. What stands below a word's own bits is left out, so that the words follow from the machine; and so is a length that no tag
     // has.
-    pub fn words(self) -> [u64; 12]
+    pub fn words(self) -> [u64; 11]
         ensures { result ≡ words_for (machine_of self) }
     {
         let s = self.state;
@@ -91,7 +90,6 @@ impl Session {
             self.data_bytes,
             self.text_bytes,
             self.steps,
-            self.groups,
             number(kind, phase),
             n,
         ]

@@ -18,7 +18,7 @@ writer_of w = record { machine = machine_of w.session; phase = w.phase; tickets 
 unfoldable pub writer_outcome : WriterReply → List ℕ → Outcome PlainWriter Work
 writer_outcome r out = record { next = writer_of r.writer; answer = answer_reply r.answer; out = out }
 
--- ## Counting in 64 bits: the session's counts of steps and of groups wrap around at 2 ^ 64, but a refused call changes nothing
+-- ## Counting in 64 bits: the session's count of steps wraps around at 2 ^ 64, but a refused call changes nothing
 
 unfoldable pub wrapped_writer : PlainWriter → PlainWriter
 wrapped_writer w = record { machine = wrapped_machine w.machine; phase = w.phase; tickets = w.tickets }

@@ -1,4 +1,4 @@
--- A writer in thirteen words, for callers that cannot hold the struct. Any thirteen words stand for a writer.
+-- A writer in twelve words, for callers that cannot hold the struct. Any twelve words stand for a writer.
 use Rattle.std.specs.Prelude.{List, [], ◌∷◌, ◌++◌, ℕ, eqb, get_or}
 use Rattle.calls.specs.Calls.{◌if◌else◌}
 use Rattle.tape_model.specs.declared.WriterPhase.{WriterPhase}
@@ -23,7 +23,7 @@ phase_in n =
     Open if eqb n 1 else
     Closed
 
--- ## The thirteen words
+-- ## The twelve words
 
 -- a tape's tag is full, so its session's length is not among the words
 abbrev pub with_full_tag : Session → Session
@@ -33,20 +33,19 @@ with_full_tag s =
       data_bytes = s.data_bytes;
       text_bytes = s.text_bytes;
       steps = s.steps;
-      groups = s.groups;
       kind = s.kind;
       phase = s.phase;
       tag_length = tape_tag_length;
     }
 
--- the session's first eleven, the tickets added, the number of the phase
+-- the session's first ten, the tickets added, the number of the phase
 unfoldable pub writer_in : List ℕ → Writer
-writer_in words = record { session = with_full_tag (session.session_in words); tickets = get_or words 11 0; phase = phase_in (get_or words 12 0) }
+writer_in words = record { session = with_full_tag (session.session_in words); tickets = get_or words 10 0; phase = phase_in (get_or words 11 0) }
 
--- the plain writer that thirteen words stand for
+-- the plain writer that twelve words stand for
 unfoldable pub plain_writer_in : List ℕ → PlainWriter
 plain_writer_in words = writer_of (writer_in words)
 
--- the thirteen words that are stored for a plain writer
+-- the twelve words that are stored for a plain writer
 unfoldable pub writer_words_for : PlainWriter → List ℕ
-writer_words_for w = session.first_eleven (session.session_for w.machine) ++ (w.tickets ∷ phase_number w.phase ∷ [])
+writer_words_for w = session.first_ten (session.session_for w.machine) ++ (w.tickets ∷ phase_number w.phase ∷ [])

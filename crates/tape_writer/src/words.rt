@@ -1,4 +1,4 @@
-// A writer in thirteen words, for callers that cannot hold the struct. Any thirteen words are read as some writer.
+// A writer in twelve words, for callers that cannot hold the struct. Any twelve words are read as some writer.
 ghost use Rattle.std.specs.Prelude.{◌≡◌};
 ghost use Rattle.tape_writer.specs.Clauses.{writer_of};
 ghost use Rattle.tape_writer.specs.Words.{phase_number, phase_in, writer_in, writer_words_for};
@@ -30,8 +30,8 @@ fn phase_in(n: u64) -> WriterPhase
 }
 
 impl Writer {
-    // The writer that thirteen words hold.
-    pub fn from_words(words: &[u64; 13]) -> Writer
+    // The writer that twelve words hold.
+    pub fn from_words(words: &[u64; 12]) -> Writer
         ensures { result ≡ writer_in words.now }
     {
         let first = [
@@ -45,18 +45,17 @@ impl Writer {
             words[7],
             words[8],
             words[9],
-            words[10],
             TAPE_TAG_LENGTH as u64,
         ];
         Writer {
             session: Session::from_words(&first),
-            tickets: words[11],
-            phase: phase_in(words[12]),
+            tickets: words[10],
+            phase: phase_in(words[11]),
         }
     }
 
     // The words of a writer.
-    pub fn words(self) -> [u64; 13]
+    pub fn words(self) -> [u64; 12]
         ensures { result ≡ writer_words_for (writer_of self) }
     {
         let session = self.session;
@@ -73,7 +72,6 @@ impl Writer {
             s[7],
             s[8],
             s[9],
-            s[10],
             self.tickets,
             phase_number(phase),
         ]

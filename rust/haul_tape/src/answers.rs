@@ -1,6 +1,6 @@
 //! The answers of the exports as results.
 
-use crate::exports::{Answer, Cutting, Opened, Paired, Parted, TruckCount, TruckCounts};
+use crate::exports::{Answer, Opened, Paired, Parted, TruckCount, TruckCounts};
 use crate::exports::{UnpackedHead, UnpackedTicket, Written};
 use crate::{Done, Head, Refusal, Ticket};
 
@@ -83,14 +83,6 @@ impl Paired {
             left_first: self.left_first as usize,
             left_second: self.left_second as usize,
         })
-    }
-}
-
-impl Cutting {
-    /// The groups.
-    pub(crate) fn into_result(self) -> Result<u64, Refusal> {
-        Refusal::check(self.refused)?;
-        Ok(self.groups)
     }
 }
 

@@ -1,9 +1,9 @@
 //! The exports of the C header one by one, with slices in place of pointers and lengths.
 //!
 //! Answers are as in C: `refused` is 0 where the call was done, else the number that sent it back
-//! (see [`Refusal`](crate::Refusal)); [`longer`] and [`Session::groups`] alone are never refused. The
-//! numbers beside a call are those with which it may be refused, in the order in which they are tried;
-//! the first that applies is given.
+//! (see [`Refusal`](crate::Refusal)); [`longer`] alone is never refused. The numbers beside a call
+//! are those with which it may be refused, in the order in which they are tried; the first that
+//! applies is given.
 //! Most programs want the types at the root of the crate instead; these calls are there for tests,
 //! and for whoever needs a session whose kind is known only when the program runs.
 //!
@@ -154,27 +154,16 @@ pub struct Paired {
     pub left_second: u64,
 }
 
-/// The answer of the dearest cutting.
-#[repr(C)]
-#[derive(Clone, Copy, PartialEq, Eq, Debug)]
-#[must_use = "the call may have been refused"]
-pub struct Cutting {
-    /// 0, or the number that sent the call back.
-    pub refused: u32,
-    /// How many groups the cutting takes.
-    pub groups: u64,
-}
-
 /// A session of either kind. A drop puts zeros in place of its words.
 #[repr(C)]
 pub struct Session {
-    words: [u64; 12],
+    words: [u64; 11],
 }
 
 /// A tape's writer. A drop puts zeros in place of its words.
 #[repr(C)]
 pub struct Writer {
-    words: [u64; 13],
+    words: [u64; 12],
 }
 
 #[rustfmt::skip] // one line each, as in the header
@@ -197,7 +186,6 @@ extern "C" {
     fn ht_session_seal_close(s: *mut Session, out: *mut u8, outlen: usize) -> Answer;
     fn ht_session_check_text(s: *mut Session, piece: *const u8, piecelen: usize) -> Answer;
     fn ht_session_check_close(s: *mut Session, tag: *const u8, taglen: usize) -> Answer;
-    fn ht_session_groups(s: *const Session) -> u64;
 
     fn ht_pack_ticket(ticket: Ticket, out: *mut u8, outlen: usize) -> Written;
     fn ht_unpack_ticket(packed: *const u8, packedlen: usize) -> UnpackedTicket;
@@ -222,8 +210,6 @@ extern "C" {
 
     fn ht_pair_tapes(first: *const u8, firstlen: usize, second: *const u8, secondlen: usize, pairs: *mut u32, pairslen: usize,
         left_first: *mut u32, left_firstlen: usize, left_second: *mut u32, left_secondlen: usize) -> Paired;
-
-    fn ht_dearest_cutting(bytes: u64, pieces: u64, lengths: *mut u32, lengthslen: usize) -> Cutting;
 }
 
 /// Puts zeros in place of words, by writes that the compiler may not leave out although nobody
@@ -347,7 +333,7 @@ impl Session {
     /// A fresh sealing session.
     #[must_use]
     pub fn fresh_sealing() -> Session {
-        let mut session = Session { words: [0; 12] };
+        let mut session = Session { words: [0; 11] };
         // SAFETY: see the module's text.
         unsafe { ht_session_fresh_sealing(&mut session) };
         session
@@ -356,7 +342,7 @@ impl Session {
     /// A fresh checking session.
     #[must_use]
     pub fn fresh_checking() -> Session {
-        let mut session = Session { words: [0; 12] };
+        let mut session = Session { words: [0; 11] };
         // SAFETY: see the module's text.
         unsafe { ht_session_fresh_checking(&mut session) };
         session
@@ -365,7 +351,7 @@ impl Session {
     /// The session's own words. They may change with the library: tests alone should look.
     #[doc(hidden)]
     #[must_use]
-    pub fn words(&self) -> &[u64; 12] {
+    pub fn words(&self) -> &[u64; 11] {
         &self.words
     }
 
@@ -427,13 +413,6 @@ impl Session {
         // SAFETY: see the module's text.
         unsafe { ht_session_check_close(self, tag.as_ptr(), tag.len()) }
     }
-
-    /// The groups of the pieces taken since the session was fresh.
-    #[must_use]
-    pub fn groups(&self) -> u64 {
-        // SAFETY: see the module's text.
-        unsafe { ht_session_groups(self) }
-    }
 }
 
 /// Packs a ticket. 4, 6.
@@ -470,7 +449,7 @@ impl Writer {
     /// A fresh writer.
     #[must_use]
     pub fn fresh() -> Writer {
-        let mut writer = Writer { words: [0; 13] };
+        let mut writer = Writer { words: [0; 12] };
         // SAFETY: see the module's text.
         unsafe { ht_writer_fresh(&mut writer) };
         writer
@@ -479,7 +458,7 @@ impl Writer {
     /// The writer's own words. They may change with the library: tests alone should look.
     #[doc(hidden)]
     #[must_use]
-    pub fn words(&self) -> &[u64; 13] {
+    pub fn words(&self) -> &[u64; 12] {
         &self.words
     }
 
@@ -603,10 +582,4 @@ pub fn pair_tapes(
             left_second.len(),
         )
     }
-}
-
-/// Writes the lengths of the dearest cutting of so many bytes into so many pieces. 14, 6.
-pub fn dearest_cutting(bytes: u64, pieces: u64, lengths: &mut [u32]) -> Cutting {
-    // SAFETY: see the module's text.
-    unsafe { ht_dearest_cutting(bytes, pieces, lengths.as_mut_ptr(), lengths.len()) }
 }

@@ -7,8 +7,7 @@
 //! heard one tape, [`parting`] finds the byte in which their receptions part, and [`longer`] hands
 //! back the longer one. [`pair_tapes`] pairs the tickets of two opened tapes, the cab's and the
 //! crusher's, by truck and tipping time. [`message`] seals and opens byte messages whole; [`Sealing`]
-//! and [`Checking`] take them in pieces, and count the groups of these; [`dearest_cutting`] gives the
-//! pieces that take the most. A call that is sent back says why by a [`Refusal`].
+//! and [`Checking`] take them in pieces. A call that is sent back says why by a [`Refusal`].
 //!
 //! ```
 //! use haul_tape::{open_tape, Head, Reader, Refusal, Ticket, Writer};
@@ -68,8 +67,8 @@
 //! The crate needs `core` alone and has no dependencies. The feature `alloc`, on unless the
 //! dependency says `default-features = false`, adds the calls that answer a `Vec` or `String`:
 //! `message::seal_to_vec`, `message::open_to_vec`, `message::seal_tag_to_vec`,
-//! `message::open_tag_to_vec`, `listing_to_string`, `pair_tapes_to_vecs` and
-//! `dearest_cutting_to_vec`. There is no other feature.
+//! `message::open_tag_to_vec`, `listing_to_string` and `pair_tapes_to_vecs`. There is no other
+//! feature.
 //!
 //! On Linux `core` as it comes refers to the unwinder. A program without `std` links there when it
 //! is optimized with `panic = "abort"` and `lto = true`; a static library, optimized with
@@ -93,7 +92,6 @@
 extern crate alloc;
 
 mod answers;
-mod cutting;
 #[allow(unsafe_code)]
 pub mod exports;
 pub mod message;
@@ -105,9 +103,6 @@ mod tape;
 mod ticket;
 mod trucks;
 
-pub use cutting::dearest_cutting;
-#[cfg(feature = "alloc")]
-pub use cutting::{dearest_cutting_to_vec, Cutting};
 pub use pairing::{pair_tapes, Paired};
 #[cfg(feature = "alloc")]
 pub use pairing::{pair_tapes_to_vecs, Pairing};

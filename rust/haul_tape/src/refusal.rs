@@ -4,10 +4,9 @@ use core::fmt;
 /// Why a call was sent back.
 ///
 /// Where several apply, the one with the smallest number is given; but [`Refusal::TagLength`], 9,
-/// comes right after [`Refusal::Phase`], 1, and [`Refusal::Output`], 6, comes after
-/// [`Refusal::TimesFall`], 12, in [`pair_tapes`](crate::pair_tapes) and after [`Refusal::NoCutting`],
-/// 14, in [`dearest_cutting`](crate::dearest_cutting). A refused call changes nothing, neither session
-/// nor writer nor output; but [`Refusal::Tag`] closes a [`Checking`] session.
+/// comes right after [`Refusal::Phase`], 1, and in [`pair_tapes`](crate::pair_tapes)
+/// [`Refusal::Output`], 6, comes after [`Refusal::TimesFall`], 12. A refused call changes nothing,
+/// neither session nor writer nor output; but [`Refusal::Tag`] closes a [`Checking`] session.
 ///
 /// Later papers may add numbers, so a `match` needs an arm for the others.
 ///
@@ -52,8 +51,6 @@ pub enum Refusal {
     TooLate = 11,
     /// 12: a truck's tipped times on a tape to be paired fall.
     TimesFall = 12,
-    /// 14: no pieces to cut into, more of them than bytes, or more than 65,536 bytes to cut.
-    NoCutting = 14,
 }
 
 impl Refusal {
@@ -88,7 +85,6 @@ impl Refusal {
             10 => Refusal::Parted,
             11 => Refusal::TooLate,
             12 => Refusal::TimesFall,
-            14 => Refusal::NoCutting,
             _ => return None,
         })
     }
@@ -111,7 +107,6 @@ impl fmt::Display for Refusal {
             Refusal::Parted => "two receptions part",
             Refusal::TooLate => "a ticket is tipped too late for form 1",
             Refusal::TimesFall => "a truck's tipped times fall",
-            Refusal::NoCutting => "there are no pieces, more of them than bytes, or too many bytes",
         };
         write!(f, "{reason} (refusal {})", self.number())
     }

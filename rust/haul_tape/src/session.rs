@@ -137,30 +137,6 @@ impl Sealing {
     pub fn close(&mut self, out: &mut [u8]) -> Result<Done, Refusal> {
         self.0.seal_close(out).into_result()
     }
-
-    /// The groups of the pieces taken since the session was fresh. A piece of b bytes, of data or text
-    /// alike, takes b / 4 of them, rounded up, and an empty piece none: so how many there are depends
-    /// on where the message is cut, and [`dearest_cutting`](crate::dearest_cutting) gives the most. A
-    /// refused call leaves the count as it was, and it stays after a close.
-    ///
-    /// ```
-    /// use haul_tape::{Refusal, Sealing};
-    ///
-    /// let mut session = Sealing::new();
-    /// session.begin(&[1; 16], &[2; 16])?;
-    /// session.data(b"shift")?;
-    /// session.text(b"face", &mut [0; 4])?;
-    /// assert_eq!(session.groups(), 2 + 1);
-    /// assert_eq!(session.text(b" 4", &mut []), Err(Refusal::Output));
-    /// session.text(b"", &mut [])?;
-    /// session.close(&mut [0; 16])?;
-    /// assert_eq!(session.groups(), 2 + 1);
-    /// # Ok::<(), Refusal>(())
-    /// ```
-    #[must_use]
-    pub fn groups(&self) -> u64 {
-        self.0.groups()
-    }
 }
 
 /// Checks the tag of a message in pieces, and gives no text: [`begin`], or [`begin_tag`] for a
@@ -282,23 +258,6 @@ impl Checking {
     /// - [`Refusal::Tag`]: the tag differs
     pub fn close(&mut self, tag: &[u8]) -> Result<Done, Refusal> {
         self.0.check_close(tag).into_result()
-    }
-
-    /// The groups of the pieces taken since the session was fresh, counted as by [`Sealing::groups`].
-    ///
-    /// ```
-    /// use haul_tape::{Checking, Refusal};
-    ///
-    /// let mut session = Checking::new();
-    /// session.begin(&[1; 16], &[2; 16])?;
-    /// session.text(&[0; 13])?;
-    /// assert_eq!(session.close(&[0; 16]), Err(Refusal::Tag));
-    /// assert_eq!(session.groups(), 4);
-    /// # Ok::<(), Refusal>(())
-    /// ```
-    #[must_use]
-    pub fn groups(&self) -> u64 {
-        self.0.groups()
     }
 }
 

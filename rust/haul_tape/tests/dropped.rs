@@ -55,14 +55,14 @@ fn what_nobody_clears_is_seen() {
     assert_eq!(session.begin(&KEY, &NONCE).refused, 0);
     let words = *session.words();
     assert!(words[..6].iter().all(|&word| word != 0), "the state");
-    let left: [u64; 12] = left_behind(|| words, |words| _ = black_box(words));
+    let left: [u64; 11] = left_behind(|| words, |words| _ = black_box(words));
     assert_eq!(left, words);
 
     let mut writer = exports::Writer::fresh();
     assert_eq!(writer.start(&KEY, HEAD, &mut [0; 9]).refused, 0);
     let words = *writer.words();
     assert!(words[..6].iter().all(|&word| word != 0), "the state");
-    let left: [u64; 13] = left_behind(|| words, |words| _ = black_box(words));
+    let left: [u64; 12] = left_behind(|| words, |words| _ = black_box(words));
     assert_eq!(left, words);
 }
 
@@ -72,19 +72,19 @@ fn a_dropped_session_leaves_zeros() {
         session.begin(&KEY, &NONCE).unwrap();
         session.text(b"face", &mut [0; 4]).unwrap();
     });
-    assert_eq!(left, [0; 12], "sealing");
+    assert_eq!(left, [0; 11], "sealing");
     let left = left_behind(Checking::new, |session| {
         session.begin(&KEY, &NONCE).unwrap();
     });
-    assert_eq!(left, [0; 12], "checking");
+    assert_eq!(left, [0; 11], "checking");
     let left = left_behind(Sealing::new, |session| {
         session.begin_tag(&KEY, &NONCE, 8).unwrap();
     });
-    assert_eq!(left, [0; 12], "with a tag of 8 bytes");
+    assert_eq!(left, [0; 11], "with a tag of 8 bytes");
     let left = left_behind(exports::Session::fresh_checking, |session| {
         assert_eq!(session.begin(&KEY, &NONCE).refused, 0);
     });
-    assert_eq!(left, [0; 12], "of the exports");
+    assert_eq!(left, [0; 11], "of the exports");
 }
 
 #[test]
@@ -92,9 +92,9 @@ fn a_dropped_writer_leaves_zeros() {
     let left = left_behind(Writer::new, |writer| {
         writer.start(&KEY, HEAD, &mut [0; 9]).unwrap();
     });
-    assert_eq!(left, [0; 13]);
+    assert_eq!(left, [0; 12]);
     let left = left_behind(exports::Writer::fresh, |writer| {
         assert_eq!(writer.start(&KEY, HEAD, &mut [0; 9]).refused, 0);
     });
-    assert_eq!(left, [0; 13], "of the exports");
+    assert_eq!(left, [0; 12], "of the exports");
 }

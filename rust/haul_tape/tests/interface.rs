@@ -1,7 +1,6 @@
 //! What a caller may rely on beside the library's own answers.
 
-use haul_tape::{dearest_cutting, exports, listing, longer, message, open_tape};
-use haul_tape::{pair_tapes, parting};
+use haul_tape::{exports, listing, longer, message, open_tape, pair_tapes, parting};
 use haul_tape::{truck_set_of, trucks, trucks_of_two};
 use haul_tape::{Checking, Head, Paired, Parted, Reader, Refusal, Sealing, Ticket};
 use haul_tape::{TruckCounts, Writer};
@@ -997,144 +996,9 @@ fn tapes_that_are_not_paired() {
     }
 }
 
-/// A piece of b bytes takes b / 4 groups, rounded up, as data and as text, in either kind of session.
-#[test]
-fn groups_of_pieces() {
-    for (bytes, groups) in [(0, 0), (1, 1), (3, 1), (4, 1), (5, 2), (8, 2), (9, 3)] {
-        let piece = &[7; 9][..bytes];
-        let mut sealing = Sealing::new();
-        let mut checking = Checking::new();
-        assert_eq!((sealing.groups(), checking.groups()), (0, 0));
-        sealing.begin(&[1; 16], &[2; 16]).unwrap();
-        checking.begin_tag(&[1; 16], &[2; 16], 8).unwrap();
-        assert_eq!((sealing.groups(), checking.groups()), (0, 0));
-        for times in 1..=3 {
-            sealing.data(piece).unwrap();
-            checking.data(piece).unwrap();
-            let expected = times * groups;
-            assert_eq!((sealing.groups(), checking.groups()), (expected, expected));
-        }
-        for times in 4..=6 {
-            sealing.text(piece, &mut [0; 9]).unwrap();
-            checking.text(piece).unwrap();
-            let expected = times * groups;
-            assert_eq!((sealing.groups(), checking.groups()), (expected, expected));
-        }
-        sealing.close(&mut [0; 16]).unwrap();
-        assert_eq!(checking.close(&[0; 8]), Err(Refusal::Tag));
-        let expected = 6 * groups;
-        assert_eq!((sealing.groups(), checking.groups()), (expected, expected));
-    }
-}
-
-/// A refused call leaves the count of groups as it was.
-#[test]
-fn groups_and_refused_calls() {
-    let long = vec![7; 65_537];
-    let mut sealing = Sealing::new();
-    assert_eq!(sealing.data(&[7; 5]), Err(Refusal::Phase));
-    assert_eq!(sealing.groups(), 0);
-    sealing.begin(&[1; 16], &[2; 16]).unwrap();
-    sealing.data(&[7; 5]).unwrap();
-    assert_eq!(sealing.data(&long), Err(Refusal::Limit));
-    assert_eq!(sealing.text(&[7; 5], &mut [0; 4]), Err(Refusal::Output));
-    assert_eq!(sealing.text(&long, &mut []), Err(Refusal::Limit));
-    let begun = sealing.begin(&[1; 16], &[2; 16]);
-    assert_eq!(begun, Err(Refusal::Phase));
-    assert_eq!(sealing.groups(), 2);
-    sealing.text(&[], &mut []).unwrap();
-    assert_eq!(sealing.data(&[7; 5]), Err(Refusal::Phase));
-    assert_eq!(sealing.close(&mut [0; 15]), Err(Refusal::Output));
-    sealing.close(&mut [0; 16]).unwrap();
-    assert_eq!(sealing.text(&[7; 5], &mut [0; 5]), Err(Refusal::Phase));
-    assert_eq!(sealing.groups(), 2);
-
-    let mut checking = Checking::new();
-    checking.begin(&[1; 16], &[2; 16]).unwrap();
-    checking.text(&[7; 5]).unwrap();
-    assert_eq!(checking.text(&long), Err(Refusal::Limit));
-    assert_eq!(checking.close(&[0; 15]), Err(Refusal::Size));
-    assert_eq!(checking.groups(), 2);
-}
-
-/// So many bytes in so many pieces have these lengths: with an output just so long, longer, and too
-/// short.
-#[track_caller]
-fn cut(bytes: usize, pieces: usize, lengths: &[u32]) {
-    let groups = ((bytes + 3 * pieces) / 4) as u64;
-    let by_pieces = |&length: &u32| u64::from(length).div_ceil(4);
-    assert_eq!(lengths.iter().map(by_pieces).sum::<u64>(), groups);
-    for more in [0, 1, 3] {
-        let mut out = vec![7; pieces + more];
-        assert_eq!(dearest_cutting(bytes, pieces, &mut out), Ok(groups));
-        assert_eq!(out, [lengths, &vec![7; more]].concat());
-    }
-    for room in [0, pieces - 1] {
-        let mut out = vec![7; room];
-        let answer = dearest_cutting(bytes, pieces, &mut out);
-        assert_eq!(answer, Err(Refusal::Output));
-        assert_eq!(out, vec![7; room]);
-    }
-    #[cfg(feature = "alloc")]
-    {
-        let cutting = haul_tape::dearest_cutting_to_vec(bytes, pieces).unwrap();
-        assert_eq!((&cutting.lengths[..], cutting.groups), (lengths, groups));
-    }
-}
-
-#[test]
-fn dearest_cuttings() {
-    cut(1, 1, &[1]);
-    cut(4, 1, &[4]);
-    cut(2, 2, &[1, 1]);
-    cut(8, 2, &[1, 7]);
-    cut(9, 2, &[1, 8]);
-    cut(10, 2, &[1, 9]);
-    cut(12, 3, &[1, 1, 10]);
-    cut(65_536, 1, &[65_536]);
-    cut(65_536, 3, &[1, 1, 65_534]);
-    cut(65_536, 65_536, &[1; 65_536]);
-    cut(65_536, 65_535, &[&[1; 65_534][..], &[2]].concat());
-}
-
-/// 14 comes first, whatever the room is; no output is written.
-#[test]
-fn bytes_that_are_not_cut() {
-    let over = u32::MAX as usize + 2;
-    for (bytes, pieces) in [
-        (0, 0),
-        (0, 1),
-        (9, 0),
-        (9, 10),
-        (65_536, 65_537),
-        (65_537, 1),
-        (65_537, 0),
-        (over, 1),
-        (9, over),
-        (usize::MAX, 1),
-        (usize::MAX, usize::MAX),
-    ] {
-        for room in [0, 1, 12] {
-            let mut out = vec![7; room];
-            let answer = dearest_cutting(bytes, pieces, &mut out);
-            assert_eq!(answer, Err(Refusal::NoCutting));
-            let answer = exports::dearest_cutting(bytes as u64, pieces as u64, &mut out);
-            assert_eq!((answer.refused, answer.groups), (14, 0));
-            assert_eq!(out, vec![7; room]);
-        }
-        #[cfg(feature = "alloc")]
-        {
-            let answer = haul_tape::dearest_cutting_to_vec(bytes, pieces);
-            assert_eq!(answer, Err(Refusal::NoCutting));
-        }
-    }
-    let answer = exports::dearest_cutting(9, 2, &mut [7]);
-    assert_eq!((answer.refused, answer.groups), (6, 0));
-}
-
 #[test]
 fn numbers_of_refusals() {
-    for number in (1..=12).chain([14]) {
+    for number in 1..=12 {
         let refusal = Refusal::from_number(number).unwrap();
         assert_eq!(u32::from(refusal.number()), number);
         let error: &dyn Error = &refusal;
@@ -1146,8 +1010,6 @@ fn numbers_of_refusals() {
     assert_eq!(Refusal::from_number(11), Some(Refusal::TooLate));
     assert_eq!(Refusal::from_number(12), Some(Refusal::TimesFall));
     assert_eq!(Refusal::from_number(13), None);
-    assert_eq!(Refusal::from_number(14), Some(Refusal::NoCutting));
-    assert_eq!(Refusal::from_number(15), None);
 }
 
 /// What is secret, and what was opened, is not shown.
@@ -1172,11 +1034,11 @@ fn sessions_are_plain_words() {
     fn sendable<T: Send + Sync>(bytes: usize) {
         assert_eq!(size_of::<T>(), bytes);
     }
-    sendable::<Sealing>(96);
-    sendable::<Checking>(96);
-    sendable::<Writer>(104);
-    sendable::<exports::Session>(96);
-    sendable::<exports::Writer>(104);
+    sendable::<Sealing>(88);
+    sendable::<Checking>(88);
+    sendable::<Writer>(96);
+    sendable::<exports::Session>(88);
+    sendable::<exports::Writer>(96);
     sendable::<Ticket>(24);
     sendable::<Head>(12);
     sendable::<exports::UnpackedTicket>(28);
@@ -1188,7 +1050,6 @@ fn sessions_are_plain_words() {
     sendable::<Parted>(8);
     sendable::<exports::Paired>(32);
     sendable::<Paired>(24);
-    sendable::<exports::Cutting>(16);
 }
 
 /// A text over the limit is refused before a vector of its length is made.

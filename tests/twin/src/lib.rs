@@ -9,7 +9,6 @@
 #![forbid(unsafe_code)]
 
 pub mod cipher;
-pub mod cutting;
 pub mod forms;
 pub mod listing;
 pub mod machine;

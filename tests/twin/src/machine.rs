@@ -3,11 +3,9 @@
 //! In every call the tests for a refusal stand first, in the order of their numbers (9 right after
 //! 1), so that the first one that applies is answered. Only then does anything change.
 //!
-//! The length of the tag is fixed at begin (document 02, P4). Accepted pieces are counted in groups
-//! (document 02, P9).
+//! The length of the tag is fixed at begin (document 02, P4).
 
 use crate::cipher::{self, State, STATE_BITS};
-use crate::cutting;
 use crate::number;
 
 /// What a machine is made for, from the start.
@@ -33,15 +31,13 @@ pub struct Done {
     pub steps: u64,
 }
 
-/// The 293 bits with their count of steps, the phase, the bytes taken, the groups of the pieces that
-/// they came in, and the length of the tag.
+/// The 293 bits with their count of steps, the phase, the bytes taken, and the length of the tag.
 #[derive(Clone, PartialEq, Eq, Debug)]
 pub struct Machine {
     kind: Kind,
     phase: Phase,
     data_bytes: u64,
     text_bytes: u64,
-    groups: u64,
     tag_bytes: usize,
     state: State,
 }
@@ -54,7 +50,6 @@ impl Machine {
             phase: Phase::Fresh,
             data_bytes: 0,
             text_bytes: 0,
-            groups: 0,
             tag_bytes: number::MAX_TAG_BYTES,
             state: State::zeros(),
         }
@@ -76,11 +71,6 @@ impl Machine {
     /// Bytes of text taken; of ciphertext in a checking machine.
     pub fn text_bytes(&self) -> u64 {
         self.text_bytes
-    }
-
-    /// Groups of the pieces taken, of data and of text alike.
-    pub fn groups(&self) -> u64 {
-        self.groups
     }
 
     /// The length of the tag: 16 until a begin fixes another.
@@ -130,7 +120,6 @@ impl Machine {
 
         cipher::data(&mut self.state, piece);
         self.data_bytes += piece.len() as u64;
-        self.groups += cutting::groups(piece.len() as u64);
         Ok(self.done(0))
     }
 
@@ -148,7 +137,6 @@ impl Machine {
         let ciphertext = cipher::seal_text(&mut self.state, piece);
         out[..ciphertext.len()].copy_from_slice(&ciphertext);
         self.text_bytes += piece.len() as u64;
-        self.groups += cutting::groups(piece.len() as u64);
         Ok(self.done(ciphertext.len()))
     }
 
@@ -162,7 +150,6 @@ impl Machine {
         self.end_data();
         cipher::open_text(&mut self.state, piece);
         self.text_bytes += piece.len() as u64;
-        self.groups += cutting::groups(piece.len() as u64);
         Ok(self.done(0))
     }
 

@@ -69,8 +69,8 @@ returns-3 c =
 start-requires : tie.Need-start-requires
 start-requires c κs = search rules
 
-counted-requires : tie.Need-counted-requires
-counted-requires c κs = omega arith
+wrapping-add-u64-requires : tie.Need-wrapping-add-u64-requires
+wrapping-add-u64-requires c κs = search rules
 
 done-requires : tie.Need-done-requires
 done-requires c κs = search rules
@@ -89,10 +89,7 @@ returns-4 c =
     let p = accepted accept in
     let next = begun a.key.now a.nonce.now a.tag-length (machine_of a.self) in
     let state = rw p.sizes at c.before.before.start.ensures in
-    let z = c.before.counted.ensures in
-    let after = stands_for _ next (λ i. (z i).kind) refl (length-of a.tag-length p.fixes) state (λ i. (z i).data_bytes) (λ i. (z i).text_bytes) (λ i. (z i).steps)
-    ((λ i. (z i).groups) ∙ omega arith) in
-    writes a.self p [] [] next refl _ after 0 refl [] refl _ c.done.ensures
+    writes a.self p [] [] next refl _ (stands_for _ next refl refl (length-of a.tag-length p.fixes) state refl refl c.before.wrapping-add-u64.ensures) 0 refl [] refl _ c.done.ensures
 
 pub begin-tag-spec : {M : Type 1} → statement M
 begin-tag-spec =
@@ -107,7 +104,7 @@ begin-tag-spec =
     refused-requires-3
     returns-3
     start-requires
-    counted-requires
+    wrapping-add-u64-requires
     cast-fixed
     done-requires
     returns-4)

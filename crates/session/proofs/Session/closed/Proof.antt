@@ -7,11 +7,11 @@ use Rattle.session.proofs.Session.closed.Tie as tie
 data-end-steps-requires : tie.Need-data-end-steps-requires
 data-end-steps-requires c κs = search rules
 
-add-counted : tie.Need-overflow-add-counted
-add-counted c = omega (arith, ended_steps_small c.before.args.self.phase, c.data-end-steps.ensures)
+add-wrapping-add-u64 : tie.Need-overflow-add-wrapping-add-u64
+add-wrapping-add-u64 c = omega (arith, ended_steps_small c.before.args.self.phase, c.data-end-steps.ensures)
 
-counted-requires : tie.Need-counted-requires
-counted-requires c κs = omega arith
+wrapping-add-u64-requires : tie.Need-wrapping-add-u64-requires
+wrapping-add-u64-requires c κs = search rules
 
 zeros-requires : tie.Need-zeros-requires
 zeros-requires c κs = search rules
@@ -19,14 +19,14 @@ zeros-requires c κs = search rules
 returns : tie.Need-returns
 returns c =
     let n = c.before.before.data-end-steps in
-    closed_session c.before.before.before.args.self c.zeros.result n.result n.ensures c.before.counted.result c.zeros.ensures c.before.counted.ensures
+    closed_session c.before.before.before.args.self c.zeros.result n.result c.before.wrapping-add-u64.result n.ensures c.zeros.ensures c.before.wrapping-add-u64.ensures
 
 pub closed-spec : {M : Type 1} → statement M
 closed-spec =
     tie.close
     (tie.spec
     data-end-steps-requires
-    add-counted
-    counted-requires
+    add-wrapping-add-u64
+    wrapping-add-u64-requires
     zeros-requires
     returns)

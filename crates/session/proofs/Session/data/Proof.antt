@@ -4,7 +4,7 @@ use borrow.Author.Tests.{not-true, not-false}
 use Rattle.calls.specs.Calls.{written_over}
 use Rattle.acorn_model.specs.Machine.{data_call, output_of, phase_allows, fixes_right, sizes_right, byte_limit, over_limit, output_short, run_through, count_data, data_taken, work}
 use Rattle.acorn_model.proofs.Refusals.{Passed}
-use Rattle.session.specs.Clauses.{length_of, machine_of, wrapped}
+use Rattle.session.specs.Clauses.{machine_of, wrapped}
 use Rattle.session.proofs.NextSession.{stands_for}
 use Rattle.session.proofs.Replies.{refused_1, refused_5, writes}
 use Rattle.session.proofs.Session.data.Statement.{statement}
@@ -57,11 +57,11 @@ absorb-data-requires c κs = search rules
 add-data-bytes : tie.Need-overflow-add-data-bytes
 add-data-bytes c = omega (arith, fits c.before.before)
 
-mul-counted : tie.Need-overflow-mul-counted
-mul-counted c = omega (arith, fits c.before.before)
+mul-wrapping-add-u64 : tie.Need-overflow-mul-wrapping-add-u64
+mul-wrapping-add-u64 c = omega (arith, fits c.before.before)
 
-counted-requires : tie.Need-counted-requires
-counted-requires c κs = omega (arith, fits c.before.before)
+wrapping-add-u64-requires : tie.Need-wrapping-add-u64-requires
+wrapping-add-u64-requires c κs = search rules
 
 done-requires : tie.Need-done-requires
 done-requires c κs = search rules
@@ -72,9 +72,7 @@ returns-3 c =
     let accept = c.before.before.before.before in
     let a = accept.before.before.before.before.before.args in
     let next = data_taken a.piece.now (machine_of a.self) in
-    let z = c.before.counted.ensures in
-    let after = stands_for _ next (λ i. (z i).kind) (λ i. (z i).phase) (λ i. length_of (z i).tag_length) c.before.before.absorb-data.ensures refl (λ i. (z i).text_bytes) (λ i. (z i).steps)
-    (λ i. (z i).groups) in
+    let after = stands_for _ next refl refl refl c.before.before.absorb-data.ensures refl refl c.before.wrapping-add-u64.ensures in
     writes a.self (accepted accept) [] [] next refl _ after 0 refl [] refl _ c.done.ensures
 
 pub data-spec : {M : Type 1} → statement M
@@ -89,7 +87,7 @@ data-spec =
     returns-2
     absorb-data-requires
     add-data-bytes
-    mul-counted
-    counted-requires
+    mul-wrapping-add-u64
+    wrapping-add-u64-requires
     done-requires
     returns-3)

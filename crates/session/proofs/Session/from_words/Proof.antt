@@ -31,9 +31,6 @@ element-copy-out-t26 c = search rules
 element-copy-out-t29 : tie.Need-element-copy-out-t29
 element-copy-out-t29 c = search rules
 
-element-copy-out-t32 : tie.Need-element-copy-out-t32
-element-copy-out-t32 c = search rules
-
 element-copy-out-kind-in : tie.Need-element-copy-out-kind-in
 element-copy-out-kind-in c = search rules
 
@@ -46,11 +43,11 @@ element-copy-out-phase-in c = search rules
 phase-in-requires : tie.Need-phase-in-requires
 phase-in-requires c κs = search rules
 
-element-copy-out-t43 : tie.Need-element-copy-out-t43
-element-copy-out-t43 c = search rules
+element-copy-out-t40 : tie.Need-element-copy-out-t40
+element-copy-out-t40 c = search rules
 
-cast-t45 : tie.Need-overflow-cast-t45
-cast-t45 c = search rules
+cast-t42 : tie.Need-overflow-cast-t42
+cast-t42 c = search rules
 
 returns : tie.Need-returns
 unfolding session_in
@@ -69,11 +66,10 @@ from-words-spec =
     element-copy-out-t23
     element-copy-out-t26
     element-copy-out-t29
-    element-copy-out-t32
     element-copy-out-kind-in
     kind-in-requires
     element-copy-out-phase-in
     phase-in-requires
-    element-copy-out-t43
-    cast-t45
+    element-copy-out-t40
+    cast-t42
     returns)

@@ -10,20 +10,20 @@ add-text-bytes c = omega arith
 data-end-steps-requires : tie.Need-data-end-steps-requires
 data-end-steps-requires c κs = search rules
 
-mul-counted : tie.Need-overflow-mul-counted
-mul-counted c = omega arith
+mul-wrapping-add-u64 : tie.Need-overflow-mul-wrapping-add-u64
+mul-wrapping-add-u64 c = omega arith
 
-add-counted : tie.Need-overflow-add-counted
-add-counted c = omega (arith, ended_steps_small c.before.before.before.args.self.phase, c.data-end-steps.ensures)
+add-wrapping-add-u64 : tie.Need-overflow-add-wrapping-add-u64
+add-wrapping-add-u64 c = omega (arith, ended_steps_small c.before.before.before.args.self.phase, c.data-end-steps.ensures)
 
-counted-requires : tie.Need-counted-requires
-counted-requires c κs = omega arith
+wrapping-add-u64-requires : tie.Need-wrapping-add-u64-requires
+wrapping-add-u64-requires c κs = search rules
 
 returns : tie.Need-returns
 returns c state =
     let n = c.before.data-end-steps in
     let a = c.before.before.before.before.args in
-    text_session a.self a.state n.result n.ensures c.counted.result a.piece.now state c.counted.ensures
+    text_session a.self a.state n.result c.wrapping-add-u64.result n.ensures a.piece.now state c.wrapping-add-u64.ensures
 
 pub text-taken-spec : {M : Type 1} → statement M
 text-taken-spec =
@@ -31,7 +31,7 @@ text-taken-spec =
     (tie.spec
     add-text-bytes
     data-end-steps-requires
-    mul-counted
-    add-counted
-    counted-requires
+    mul-wrapping-add-u64
+    add-wrapping-add-u64
+    wrapping-add-u64-requires
     returns)

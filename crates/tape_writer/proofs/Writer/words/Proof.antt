@@ -1,6 +1,6 @@
 -- `Writer::words` meets its contract.
 use borrow.Author.Rules.{rules}
-use Rattle.session.specs.Words.{firstTen, words_of, words_for}
+use Rattle.session.specs.Words.{first_ten, words_of, words_for}
 use Rattle.tape_writer.specs.Clauses.{writer_of}
 use Rattle.tape_writer.specs.Words.{writer_words_for}
 use Rattle.tape_writer.proofs.Writer.words.Statement.{statement}
@@ -43,7 +43,7 @@ phase-number-requires : tie.Need-phase-number-requires
 phase-number-requires c κs = search rules
 
 returns : tie.Need-returns
-unfolding writer_words_for writer_of words_for words_of firstTen
+unfolding writer_words_for writer_of words_for words_of first_ten
 returns c = rw (c.before.words.ensures, c.phase-number.ensures)
 
 pub words-spec : {M : Type 1} → statement M
