@@ -1,4 +1,6 @@
 // ACORN-128 v3 on words: the runs over data, text and the fixed stretches.
+#![tactic(auto)]
+
 pub mod stretch;
 mod tag_bytes;
 mod word_bytes;

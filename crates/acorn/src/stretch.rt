@@ -7,7 +7,7 @@ ghost use Rattle.acorn.specs.Table.{ca_at, cb_at, ControlsAt};
 
 use super::word_bytes::load_word;
 
-#[derive(Drop)]
+#[derive(Clone, Copy)]
 pub enum StretchName {
     Start,
     Data,
@@ -29,7 +29,7 @@ pub const TEXT_END: u64 = 1050624;
 
 pub const FINAL: u64 = 1050880;
 
-#[derive(Drop)]
+#[derive(Clone, Copy)]
 pub struct Controls {
     pub stretch: StretchName,
     pub ca: bool,

@@ -1,4 +1,6 @@
 // The state of ACORN-128 v3 in six words, and up to 32 steps together, whose ks and f come as words out of the state before.
+#![tactic(auto)]
+
 mod word;
 
 ghost use Rattle.std.specs.Prelude.{◌≡◌, ℕ, ◌+◌, ◌*◌, ◌%◌, ◌≤◌, ◌<◌};
@@ -11,7 +13,7 @@ use word::{choice, half, majority, mask, shifted, shifted_last};
 
 // The 293 bits in six words: S0 to S60, S61 to S106, S107 to S153, S154 to S192, S193 to S229, S230 to S292.
 // Each has the highest places of its word; the bits below do not count.
-#[derive(Drop)]
+#[derive(Clone, Copy)]
 pub struct State {
     pub w0: u64,
     pub w1: u64,
@@ -22,7 +24,7 @@ pub struct State {
 }
 
 // The state after some steps, and the ks bits of 32 steps, the first of them these.
-#[derive(Drop)]
+#[derive(Clone, Copy)]
 pub struct Stepped {
     pub state: State,
     pub ks: u32,

@@ -1,11 +1,13 @@
 // What code and specification share: the kinds and phases of a session, and the lengths of its strings and stretches.
-#[derive(Drop)]
+#![tactic(auto)]
+
+#[derive(Clone, Copy)]
 pub enum Kind {
     Sealing,
     Checking,
 }
 
-#[derive(Drop)]
+#[derive(Clone, Copy)]
 pub enum Phase {
     Fresh,
     Data,

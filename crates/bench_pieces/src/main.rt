@@ -1,4 +1,6 @@
 // For the benchmark: 400 sealing sessions, each of 65,000 bytes of text in pieces of 13. Prints the steps of the last, and the first byte of its tag.
+#![tactic(auto)]
+
 ghost use Rattle.std.specs.Prelude.{◌≡◌, length};
 
 use acorn_model::Kind;

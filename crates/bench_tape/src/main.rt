@@ -1,4 +1,6 @@
 // For the benchmark: 400 tapes of 5,000 tickets, written add by add. Prints the steps of the last, and the first byte of its tag.
+#![tactic(auto)]
+
 ghost use Rattle.std.specs.Prelude.{◌≡◌, length};
 
 use calls::Answer;

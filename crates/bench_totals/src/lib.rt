@@ -1,4 +1,6 @@
 // For the benchmark: `totals` for C, which the library does not export.
+#![tactic(auto)]
+
 ghost use Rattle.std.specs.Prelude.{◌≡◌};
 ghost use Rattle.tape_model.specs.Tape.{plain_totals};
 ghost use Rattle.bench_totals.specs.Net.{net_or_zero};

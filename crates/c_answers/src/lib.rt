@@ -1,5 +1,7 @@
 // Answers as structs of numbers, for C: `refused` is 0 where the call was done; else it is the number, and the rest is zeros, but that a
 // reading's position stays, and 10 comes with its place. A part of a reception is of a call that is never refused.
+#![tactic(auto)]
+
 ghost use Rattle.std.specs.Prelude.{◌≡◌};
 ghost use Rattle.calls.specs.Calls.{answer_reply, written_reply, left_unchanged};
 ghost use Rattle.tape_model.specs.Ticket.{no_ticket, ticket_reply, head_reply};
@@ -18,14 +20,14 @@ use tape_model::{Head, NextTicket, OpenedTape, Ticket, UnpackedHead, UnpackedTic
 use trucks::{TruckCount, TruckCounts};
 
 #[repr(C)]
-#[derive(Drop)]
+#[derive(Clone, Copy)]
 pub struct HtWritten {
     pub refused: u32,
     pub bytes: u64,
 }
 
 #[repr(C)]
-#[derive(Drop)]
+#[derive(Clone, Copy)]
 pub struct HtAnswer {
     pub refused: u32,
     pub bytes: u64,
@@ -33,7 +35,7 @@ pub struct HtAnswer {
 }
 
 #[repr(C)]
-#[derive(Drop)]
+#[derive(Clone, Copy)]
 pub struct HtOpened {
     pub refused: u32,
     pub tickets: u64,
@@ -41,21 +43,21 @@ pub struct HtOpened {
 }
 
 #[repr(C)]
-#[derive(Drop)]
+#[derive(Clone, Copy)]
 pub struct HtUnpackedTicket {
     pub refused: u32,
     pub ticket: Ticket,
 }
 
 #[repr(C)]
-#[derive(Drop)]
+#[derive(Clone, Copy)]
 pub struct HtUnpackedHead {
     pub refused: u32,
     pub head: Head,
 }
 
 #[repr(C)]
-#[derive(Drop)]
+#[derive(Clone, Copy)]
 pub struct HtReading {
     pub refused: u32,
     pub at_end: u32,
@@ -64,14 +66,14 @@ pub struct HtReading {
 }
 
 #[repr(C)]
-#[derive(Drop)]
+#[derive(Clone, Copy)]
 pub struct HtTruckCount {
     pub refused: u32,
     pub trucks: u32,
 }
 
 #[repr(C)]
-#[derive(Drop)]
+#[derive(Clone, Copy)]
 pub struct HtTruckCounts {
     pub refused: u32,
     pub both: u32,
@@ -80,21 +82,21 @@ pub struct HtTruckCounts {
 }
 
 #[repr(C)]
-#[derive(Drop)]
+#[derive(Clone, Copy)]
 pub struct HtParted {
     pub refused: u32,
     pub place: u64,
 }
 
 #[repr(C)]
-#[derive(Drop)]
+#[derive(Clone, Copy)]
 pub struct HtReception {
     pub mast: u32,
     pub bytes: u64,
 }
 
 #[repr(C)]
-#[derive(Drop)]
+#[derive(Clone, Copy)]
 pub struct HtPaired {
     pub refused: u32,
     pub pairs: u64,

@@ -1,4 +1,6 @@
 // Byte strings compared whole, without an early exit, as tags are.
+#![tactic(auto)]
+
 ghost use Rattle.std.specs.Prelude.{◌≡◌};
 ghost use Rattle.calls.specs.Calls.{same_bytes};
 

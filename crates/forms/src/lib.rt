@@ -1,4 +1,6 @@
 // A ticket moved between form 1 and form 2.
+#![tactic(auto)]
+
 ghost use Rattle.std.specs.Prelude.{◌≡◌, not};
 ghost use Rattle.calls.specs.Calls.{◌if◌else◌};
 ghost use Rattle.tape_model.specs.Ticket.{in_form, ticket_reply};

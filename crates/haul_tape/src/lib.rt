@@ -1,5 +1,7 @@
 // The interface for C, as include/haul_tape.h declares it and in its order. Nothing is asked of the caller but what the header says of pointers:
 // any numbers and any words are taken, and each call's contract is an equation against the definitions of the library's own.
+#![tactic(auto)]
+
 ghost use Rattle.std.specs.Prelude.{◌≡◌, []};
 ghost use Rattle.acorn_model.specs.declared.Kind.TheVariants.{Sealing, Checking};
 ghost use Rattle.calls.specs.Calls.{answer_reply};

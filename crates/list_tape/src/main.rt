@@ -1,4 +1,6 @@
 // Lists a tape: reads a key of 16 bytes and then a tape from standard input, and prints the listing.
+#![tactic(auto)]
+
 ghost use Rattle.std.specs.Prelude.{◌≡◌, length, ◌+◌};
 ghost use Rattle.io.specs.Counts.{IsPrefixLen};
 ghost use Rattle.tape_model.specs.Listing.{printed};

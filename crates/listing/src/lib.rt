@@ -1,4 +1,6 @@
 // The listing of a tape, as a text in ASCII: a line for its head, a line a ticket, and a line of totals; or the line of a refusal alone.
+#![tactic(auto)]
+
 mod lengths;
 mod lines;
 mod text;

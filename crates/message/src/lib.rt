@@ -1,5 +1,7 @@
 // Whole messages: sealing writes ciphertext and then tag; opening takes them and writes the text, once the tag is known to match, or decrypts it
 // into a buffer of the caller's. The tag has 16 bytes, or as many from 8 to 16 as the call is given.
+#![tactic(auto)]
+
 ghost use Rattle.std.specs.Prelude.{◌≡◌, ◌-◌, ◌≤◌, ◌<◌, length, take, replicate};
 ghost use Rattle.calls.specs.Calls.{◌if◌else◌, unless_refused, written_over, same_bytes};
 ghost use Rattle.acorn_model.specs.Stretches.{full_tag_length, through, text_end, tag_bytes, after_data};

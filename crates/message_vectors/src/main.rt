@@ -1,5 +1,7 @@
 // Runs whole sealing and opening: known answers of ACORN-128 version 3, sizes up to the limit, and the refusals around the limits.
 // Prints a line a case.
+#![tactic(auto)]
+
 mod strings;
 
 use calls::Written;

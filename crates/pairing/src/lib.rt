@@ -1,5 +1,7 @@
 // The tickets of two opened tapes in pairs: same truck, and tipped at most 120 seconds apart. The tickets of the first tape come in tape order, and each
 // is paired with the earliest ticket of the second that fits it and has no partner yet.
+#![tactic(auto)]
+
 ghost use Rattle.std.specs.Prelude.{◌≡◌, suc, ◌+◌, ◌≤◌, ◌<◌, leb, length};
 ghost use Rattle.calls.specs.Calls.{written_over};
 ghost use Rattle.pairing.specs.Pairing.{seconds_apart, tickets_to_pair, pair_numbers};
@@ -9,14 +11,14 @@ use tape_model::{TICKET_LENGTH, UnpackedTicket};
 use ticket::{is_tickets_length, unpack_ticket};
 
 // A refusal number; or how many pairs, and how many tickets are left over on the first tape and on the second.
-#[derive(Drop)]
+#[derive(Clone, Copy)]
 pub enum PairedTapes {
     Refused(u8),
     Done(usize, usize, usize),
 }
 
 // What pairing looks at in a ticket.
-#[derive(Drop)]
+#[derive(Clone, Copy)]
 struct Tipping {
     truck: usize,
     tipped: u32,

@@ -1,5 +1,7 @@
 // The pay sheet of an opened tape: its pay at a rate in cents per tonne, and what each of sixteen contractors gets of it. An opened tape is its plain
 // bytes: 2 where they are not 13 for each of at most 5,000 tickets, 8 where a ticket does not unpack; before both, 13 for a rate above 1,000,000.
+#![tactic(auto)]
+
 ghost use Rattle.std.specs.Prelude.{◌≡◌, ℕ, ◌+◌, ◌*◌, ◌/◌, ◌%◌, ◌^◌, ◌≤◌, ◌<◌, ltb};
 ghost use Rattle.calls.specs.Calls.{reply_of};
 ghost use Rattle.tape_model.specs.Tape.{of_plain};
@@ -16,21 +18,21 @@ pub const CONTRACTORS: usize = 16;
 pub const HIGHEST_RATE: u64 = 1000000;
 
 // A refusal number, or the tape's pay in cents.
-#[derive(Drop)]
+#[derive(Clone, Copy)]
 pub enum TapePay {
     Refused(u8),
     Done(u64),
 }
 
 // The answer, and each contractor's share in cents; the shares are zeros where the sheet is refused.
-#[derive(Drop)]
+#[derive(Clone, Copy)]
 pub struct PaySheet {
     pub answer: TapePay,
     pub shares: [u64; CONTRACTORS],
 }
 
 // The net kilograms of each contractor; or the number that refuses the tape, 0 for none.
-#[derive(Drop)]
+#[derive(Clone, Copy)]
 struct Nets {
     refused: u8,
     nets: [u64; CONTRACTORS],

@@ -1,4 +1,6 @@
 // Prints a pay sheet: reads a rate and the end of its line, a key of 16 bytes and then a tape from standard input, and prints the sheet.
+#![tactic(auto)]
+
 ghost use Rattle.std.specs.Prelude.{◌≡◌, ◌++◌, ◌+◌, ◌≤◌, ◌<◌, eqb, length, get_or, take, drop};
 ghost use Rattle.io.specs.Counts.{IsPrefixLen};
 ghost use Rattle.acorn_model.specs.Machine.{key_length};

@@ -1,4 +1,6 @@
 // Writes a tape of one ticket, opens it and reads it back. Prints the tape in hexadecimal, the ticket and the totals; or a refusal number.
+#![tactic(auto)]
+
 ghost use Rattle.std.specs.Prelude.{◌≡◌, length};
 ghost use Rattle.tape_model.specs.Reader.{read_next, reader_over, next_reply};
 

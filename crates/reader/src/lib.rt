@@ -1,5 +1,7 @@
 // The reader: it hands out the tickets of opened bytes in turn, and after the last says that it is at the end. Each call takes the reader and
 // hands back the reader after it, with an answer. The work is done by `read_at`, whose parameters are plain.
+#![tactic(auto)]
+
 ghost use Rattle.std.specs.Prelude.{◌≡◌};
 ghost use Rattle.tape_model.specs.Reader.{read_next};
 ghost use Rattle.reader.specs.Clauses.{reader_at, read_outcome, Made, NextCalled};

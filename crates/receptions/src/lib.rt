@@ -1,4 +1,6 @@
 // Two receptions of one tape, as two masts caught them: where they part, and the longer of two that do not.
+#![tactic(auto)]
+
 ghost use Rattle.std.specs.Prelude.{◌≡◌, ◌≤◌, length};
 ghost use Rattle.receptions.specs.Receptions as receptions;
 ghost use Rattle.receptions.specs.Clauses.{parting_reply, IsPart};
@@ -7,7 +9,7 @@ ghost use Rattle.receptions.specs.Laws.{AgreeBefore};
 use compare::same_bytes;
 
 // Where two receptions part: 10 and the place, counted from 0; or that they do not.
-#[derive(Drop)]
+#[derive(Clone, Copy)]
 pub enum PartingAnswer {
     Refused(u8, usize),
     NotParted,

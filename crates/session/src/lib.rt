@@ -1,5 +1,7 @@
 // A session of ACORN-128 v3. A call takes the session by value and returns the one after it, with an answer: a refusal number, or how many bytes
 // were written and how many steps the session has run. A refused call changes nothing, but that a wrong tag closes.
+#![tactic(auto)]
+
 mod phase_runs;
 mod refusal;
 mod words;

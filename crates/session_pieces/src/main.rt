@@ -1,4 +1,6 @@
 // Seals a message in a session, its text in two pieces, and compares what comes with the whole message sealed at once.
+#![tactic(auto)]
+
 ghost use Rattle.std.specs.Prelude.{◌≡◌, length};
 
 use acorn_model::Kind;

@@ -1,6 +1,8 @@
 // One step of ACORN-128 v3, to be read with the cipher's paper (document 003) beside it. The functions are those of its section 1.3.2, named as there in
 // this language's spelling, and each line of the paper is a statement here, in the same order. `s[j]` is the paper's S_{i,j}, and `next[j]` its S_{i+1,j};
 // true is 1, `^` is ⊕ and `!` is ∼. What stands behind `ghost use` and `ensures` is for the prover (docs/READING.md).
+#![tactic(auto)]
+
 ghost use Rattle.std.specs.Prelude.{◌≡◌};
 ghost use Rattle.acorn_model.specs.Step as model;
 ghost use Rattle.single_step.specs.Clauses.{state_of, Steps};

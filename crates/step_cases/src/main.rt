@@ -3,6 +3,8 @@
 // and together both are 0. A line has the places that hold 1 before the step, m, ca and cb; then ks, and the places that hold 1 after it.
 // A step with another order of the updates, one update fewer, or one place of an update or a formula moved prints other lines; tests/twin/tests/step_cases.rs
 // tries them all.
+#![tactic(auto)]
+
 ghost use Rattle.std.specs.Prelude.{◌<◌};
 
 fn with(mut s: [bool; 293], place: usize) -> [bool; 293]

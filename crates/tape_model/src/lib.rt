@@ -1,6 +1,8 @@
 // Tickets and heads by value, the phases of a tape's writer, the answers of calls on tickets and tapes, and the lengths that tapes are made of.
+#![tactic(auto)]
+
 #[repr(C)]
-#[derive(Drop)]
+#[derive(Clone, Copy)]
 pub struct Ticket {
     pub form: u8,
     pub truck: u16,
@@ -14,14 +16,14 @@ pub struct Ticket {
 }
 
 #[repr(C)]
-#[derive(Drop)]
+#[derive(Clone, Copy)]
 pub struct Head {
     pub device: u32,
     pub shift: u32,
     pub sheet: u32,
 }
 
-#[derive(Drop)]
+#[derive(Clone, Copy)]
 pub enum WriterPhase {
     Fresh,
     Open,
@@ -29,35 +31,35 @@ pub enum WriterPhase {
 }
 
 // The answer of unpacking a ticket, and of moving one to a form: a refusal number, or the ticket.
-#[derive(Drop)]
+#[derive(Clone, Copy)]
 pub enum UnpackedTicket {
     Refused(u8),
     Done(Ticket),
 }
 
 // The answer of unpacking a head: a refusal number, or the head.
-#[derive(Drop)]
+#[derive(Clone, Copy)]
 pub enum UnpackedHead {
     Refused(u8),
     Done(Head),
 }
 
 // The answer of summing up opened bytes: a refusal number, or the number of tickets and their total net.
-#[derive(Drop)]
+#[derive(Clone, Copy)]
 pub enum TicketTotals {
     Refused(u8),
     Done(usize, u64),
 }
 
 // The answer of opening a tape: the same.
-#[derive(Drop)]
+#[derive(Clone, Copy)]
 pub enum OpenedTape {
     Refused(u8),
     Done(usize, u64),
 }
 
 // The answer of a reader: a refusal number, the next ticket, or that it is at the end.
-#[derive(Drop)]
+#[derive(Clone, Copy)]
 pub enum NextTicket {
     Refused(u8),
     Done(Ticket),

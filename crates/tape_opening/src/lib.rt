@@ -1,4 +1,6 @@
 // Opening a tape, into an output or into a buffer of the caller's.
+#![tactic(auto)]
+
 mod opening;
 mod sized;
 

@@ -1,5 +1,7 @@
 // A tape's writer seals a shift's tickets behind a head. Every call of the writer takes it and hands back the writer after it, with an answer: a
 // refusal number, or the bytes that the call wrote and the steps run since the writer was fresh. A refused call changes nothing.
+#![tactic(auto)]
+
 mod refusal;
 mod words;
 

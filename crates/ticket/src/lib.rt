@@ -1,5 +1,7 @@
 // Tickets and heads: their rules, packing them, unpacking, and the totals of plain bytes. Packed bytes are one number, the first byte on
 // top, which the code holds in two words.
+#![tactic(auto)]
+
 mod word;
 
 ghost use Rattle.std.specs.Prelude.{◌≡◌, true, ℕ, ◌+◌, ◌*◌, ◌/◌, ◌%◌, ◌^◌, ◌<◌};
@@ -84,7 +86,7 @@ pub fn head_valid(h: Head) -> bool
 }
 
 // A packed ticket as a number: its first 64 bits, and its last 40.
-#[derive(Drop)]
+#[derive(Clone, Copy)]
 struct Words {
     high: u64,
     low: u64,
@@ -175,7 +177,7 @@ fn put(packed: &[u8], out: &mut [u8]) -> Written
     if out.len() < packed.len() {
         return Written::Refused(6);
     }
-    bytes::copy(packed, out);
+    out[..packed.len()].copy_from_slice(packed);
     Written::Done(packed.len())
 }
 
@@ -337,7 +339,7 @@ pub fn nonce_of(head: &[u8]) -> [u8; 16]
 {
     let mut nonce = [0; 16];
     if head.len() == HEAD_LENGTH {
-        bytes::copy(head, &mut nonce);
+        nonce[..HEAD_LENGTH].copy_from_slice(head);
     }
     nonce
 }

@@ -1,4 +1,6 @@
 // Runs cases (h) to (l) on the code of tickets and heads, then further weights and totals of plain bytes, and prints what they give.
+#![tactic(auto)]
+
 use calls::Written;
 use tape_model::{Head, Ticket, TicketTotals, UnpackedHead, UnpackedTicket};
 

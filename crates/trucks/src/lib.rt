@@ -1,6 +1,8 @@
 // The different trucks on an opened tape: each truck number has a bit of its own, and the set bits are counted; and of two opened tapes the
 // trucks on both, on either and on just one. An opened tape is its plain bytes: 2 where they are not 13 for each of at most 5,000 tickets, 8 where a
 // ticket does not unpack.
+#![tactic(auto)]
+
 ghost use Rattle.std.specs.Prelude.{◌≡◌, ◌≤◌};
 ghost use Rattle.std.specs.Int.Count.{ones};
 ghost use Rattle.calls.specs.Calls.{is_refused, refused};
@@ -12,33 +14,33 @@ use tape_model::{TICKET_LENGTH, UnpackedTicket};
 use ticket::{is_tickets_length, unpack_ticket};
 
 // A set of truck numbers: truck k is bit k % 64 of word k / 64.
-#[derive(Drop)]
+#[derive(Clone, Copy)]
 pub struct TruckSet {
     pub words: [u64; 16],
 }
 
 // The answer for one tape: a refusal number, or how many different trucks.
-#[derive(Drop)]
+#[derive(Clone, Copy)]
 pub enum TruckCount {
     Refused(u8),
     Done(u32),
 }
 
 // The same, and the set of the trucks; the empty set where the tape is refused.
-#[derive(Drop)]
+#[derive(Clone, Copy)]
 pub struct FoundTrucks {
     pub answer: TruckCount,
     pub set: TruckSet,
 }
 
 // The answer for two tapes: a refusal number, or how many different trucks are on both, on either and on just one.
-#[derive(Drop)]
+#[derive(Clone, Copy)]
 pub enum TruckCounts {
     Refused(u8),
     Done(u32, u32, u32),
 }
 
-#[derive(Drop)]
+#[derive(Clone, Copy)]
 enum SetOperation {
     Intersection,
     Union,

@@ -1,4 +1,6 @@
 // Bytes that nobody may read afterwards.
+#![tactic(auto)]
+
 ghost use Rattle.std.specs.Prelude.{◌≡◌, length, replicate};
 
 fn put_zeros(bytes: &mut [u8])

@@ -1,0 +1,22 @@
+-- `packed_head` is the packed head: the number of its values in 32 and 40 bits, where what does not fit in 40 runs over.
+use Prim.Native.Nat.{ℕ, ◌+◌, ◌*◌, ◌/◌, ◌%◌, ◌^◌}
+use mathlib.Core.Path.{◌≡◌, sym, ap, ◌∙◌}
+use mathlib.Core.List.{List, ◌++◌}
+use native.Mathlib.Omega.{arith}
+use borrow.Author.Rules.{rules}
+use Rattle.tape_model.specs.Format.{join, cut, byte_widths, widths}
+use Rattle.tape_model.specs.Ticket.{head_format, head_values, pack_head}
+use Rattle.tape_model.proofs.Widths.{cut-above, cut-append}
+use Rattle.ticket.proofs.packed_head.Goals as goal
+
+pub returns : goal.returns
+unfolding pack_head
+returns c =
+    let h = c.args.h in
+    let l = h.shift * 2 ^ 20 + h.sheet in
+    let rest = l % 2 ^ 40 in
+    let top = h.device + l / 2 ^ 40 in
+    let e : join (widths head_format) (head_values h) ≡ top * 2 ^ 40 + rest = omega arith in
+    let whole : l / 2 ^ 40 * 2 ^ 40 + rest ≡ l = omega arith in
+    sym (ap (cut (byte_widths 9)) e ∙ cut-append (byte_widths 4) (byte_widths 5) top rest (omega arith)
+    ∙ ap (λ (bytes : List ℕ). cut (byte_widths 4) top ++ bytes) (sym (cut-above (byte_widths 5) (l / 2 ^ 40) rest) ∙ ap (cut (byte_widths 5)) whole))
