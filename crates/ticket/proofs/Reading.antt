@@ -75,6 +75,10 @@ pub record Seen (s : List ℕ) (h l : ℕ) : Type 0 where
   pub last : l ≡ join (byte_widths 8) (take 8 (drop 5 s))
   pub word : h < 2 ^ 64
 
+pub seen : (s : List ℕ) (h l : ℕ) → length s ≡ 13 → AreBytes s → h ≡ join (byte_widths 8) (take 8 s) → l ≡ join (byte_widths 8) (take 8 (drop 5 s))
+    → h < 2 ^ 64 → Seen s h l
+seen s h l size bytes first last word = record { size = size; bytes = bytes; first = first; last = last; word = word }
+
 module _ (s : List ℕ) (h l : ℕ) (seen : Seen s h l) where
   abbrev n : length s ≡ 13
   n = seen.size

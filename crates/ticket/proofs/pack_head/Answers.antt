@@ -17,7 +17,7 @@ unfolding pack_head_into
 returns c =
     let s = c.args in
     packing_puts 3 _ _ _ _ s.out.now _
-    (sym c.head_valid.ensures ∙ not-false _ c.if-not-head_valid.false)
+    (sym c.head_valid.ensures ∙ c.if-not-head_valid.false)
     c.packed_head-packed.ensures
     (head-length s.h)
     c.put.ensures

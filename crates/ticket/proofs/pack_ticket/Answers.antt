@@ -13,14 +13,14 @@ unfolding pack_ticket_into result_of unless_refused written_reply
 returns-then-not-valid c = rw (sym c.valid.ensures, c.if-not-valid.true)
 
 pub packed_ticket-packed-requires : goal.packed_ticket-packed-requires
-packed_ticket-packed-requires c = sym c.valid.ensures ∙ not-false _ c.if-not-valid.false
+packed_ticket-packed-requires c = sym c.valid.ensures ∙ c.if-not-valid.false
 
 pub returns : goal.returns
 unfolding pack_ticket_into
 returns c =
     let s = c.args in
     packing_puts 4 _ _ _ _ s.out.now _
-    (sym c.valid.ensures ∙ not-false _ c.if-not-valid.false)
+    (sym c.valid.ensures ∙ c.if-not-valid.false)
     c.packed_ticket-packed.ensures
     (ticket-length s.t)
     c.put.ensures

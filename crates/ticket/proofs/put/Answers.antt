@@ -1,6 +1,7 @@
 -- `put` copies into an output that is long enough, and refuses any other.
 use borrow.Author.Tests.{lt-ltb}
 use borrow.Author.Rules.{rules}
+use lib.Seq.{take-length}
 use Rattle.calls.specs.Calls.{written_reply, unless_refused, result_of, put_into}
 use Rattle.ticket.proofs.Writing.{put-fits}
 use Rattle.ticket.proofs.put.Goals as goal
@@ -13,4 +14,4 @@ pub returns : goal.returns
 unfolding written_reply
 returns c =
     let s = c.args in
-    put-fits s.packed.now s.out.now _ c.if-out-packed.false c.copy.ensures.1
+    put-fits s.packed.now s.out.now _ c.if-out-packed.false (rw (c.copy_from_slice.ensures.after, take-length s.packed.now))

@@ -1,6 +1,7 @@
 -- `totals` are those of the plain bytes. Invariant: the totals are those of the tickets that are left, with i of them before and their sum.
 use Prim.Native.Nat.{◌+◌, ◌-◌, ◌*◌, ◌^◌, ◌≤◌}
 use mathlib.Core.Path.{◌≡◌, sym, ap, ◌∙◌}
+use mathlib.Core.Bool.{not}
 use native.Mathlib.Omega.{arith}
 use borrow.Author.Rules.{rules}
 use Rattle.tape_model.specs.Ticket.{ticket_reply}
@@ -12,21 +13,21 @@ use Rattle.ticket.proofs.totals.Goals as goal
 
 pub returns-then-not-is_tickets_length : goal.returns-then-not-is_tickets_length
 unfolding totals_reply plain_totals
-returns-then-not-is_tickets_length c = wrong_length _ _ c.is_tickets_length.ensures totals_of c.if-not-is_tickets_length.true
+returns-then-not-is_tickets_length c = wrong_length _ _ c.is_tickets_length.ensures totals_of (ap not c.if-not-is_tickets_length.true)
 
 pub loop-i-init : goal.loop-i-init
 loop-i-init c =
     let s = c.args.plain.now in
-    (omega arith, few_tickets s _ c.is_tickets_length.ensures c.if-not-is_tickets_length.false, omega arith, all_left _ _ (totals_after 0 0) ∙ none_before _)
+    (omega arith, few_tickets s _ c.is_tickets_length.ensures (ap not c.if-not-is_tickets_length.false), omega arith, all_left _ _ (totals_after 0 0) ∙ none_before _)
 
 pub returns-in_default : goal.returns-in_default
 unfolding totals_reply ticket_reply plain_totals
 returns-in_default c =
     let s = c.args.plain.now in
     let l = c.loop-i in
-    right_length s _ c.is_tickets_length.ensures c.if-not-is_tickets_length.false totals_of _
+    right_length s _ c.is_tickets_length.ensures (ap not c.if-not-is_tickets_length.false) totals_of _
     (one_refused s _ l.i (13 * l.i + 13 - 13 * l.i) (omega arith) (omega arith) (totals_after l.i l.sum) _ (omega arith)
-    (ap ticket_reply (sym c.enum_told-1.given.1) ∙ c.unpack_ticket.ensures)
+    c.in_default.ensures
     ∙ l.invariant.3)
 
 pub loop-i-preserved : goal.loop-i-preserved
@@ -38,7 +39,7 @@ loop-i-preserved c =
       l.invariant.1,
       omega arith,
       one-done s _ l.i (13 * l.i + 13 - 13 * l.i) (omega arith) (omega arith) _ _ _ (one_more l.i l.sum _ _ c.net.ensures)
-          (ap ticket_reply (sym c.t-1.given.1) ∙ c.unpack_ticket.ensures)
+          c.in-Done.ensures
           ∙ l.invariant.3,
     )
 
@@ -47,5 +48,5 @@ unfolding totals_reply plain_totals
 returns c =
     let s = c.args.plain.now in
     let l = c.loop-i in
-    right_length s _ c.is_tickets_length.ensures c.if-not-is_tickets_length.false totals_of _
+    right_length s _ c.is_tickets_length.ensures (ap not c.if-not-is_tickets_length.false) totals_of _
     (ap done (none_behind l.i _ l.sum (omega arith)) ∙ none_left s _ l.i (totals_after l.i l.sum) (omega arith) ∙ l.invariant.3)
