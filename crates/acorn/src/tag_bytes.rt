@@ -9,7 +9,6 @@ ghost use Rattle.acorn.specs.Runs.{tag_bytes_output};
 use super::{TAG_BYTES, write_tag};
 use acorn_kernel::State;
 use acorn_model::LEAST_TAG_LENGTH;
-use bytes::copy;
 use compare::same_bytes;
 
 // Whether a tag may have n bytes.
@@ -40,7 +39,7 @@ pub fn write_tag_bytes(s: State, n: usize, out: &mut [u8])
     let mut full = [0; 16];
     write_tag(s, &mut full);
     let first = TAG_BYTES - n;
-    copy(&full[first..], out);
+    out[..n].copy_from_slice(&full[first..]);
 }
 
 // Whether the given bytes are the last n of the tag (all of it where it has no more), of the state before final. All of them are compared, wherever

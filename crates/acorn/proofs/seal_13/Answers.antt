@@ -8,8 +8,7 @@ use lib.ListN.{length}
 use Rattle.acorn_kernel.specs.Together.{state_of}
 use Rattle.acorn.specs.Table.{first_step}
 use Rattle.acorn.proofs.StretchRuns.{TextUpTo, text_none, text_further, text_all, text_refused}
-use Rattle.acorn.proofs.seal_13.Statement.{statement}
-use Rattle.acorn.proofs.seal_13.Tie as tie
+use Rattle.acorn.proofs.seal_13.Goals as goal
 
 -- where the control bits stand, from the first store
 abbrev controlled : tie.After-store-word → tie.After-cb-at
@@ -91,92 +90,30 @@ sized c = omega (arith, (controlled c).before.before.before.if1.false)
 room : (c : tie.After-store-word) → 13 ≤ length (start c).args.out.now
 room c = omega (arith, (controlled c).before.before.if2.false)
 
-seal-text-requires : tie.Need-seal-text-requires
-seal-text-requires c κs = search rules
+pub returns-then-out-lt13 : goal.returns-then-out-lt13
+returns-then-out-lt13 c = let a = c.args in text_refused false (state_of a.s) a.piece.now a.out.now (omega (arith, c.if-out-lt13.true, c.if-piece-ne13.false))
 
-same_length : tie.Need-same-length
-same_length c = search rules
+pub store_word-requires-2 : goal.store_word-requires-2
+store_word-requires-2 c = omega (arith, c.Store-word.auto.0, room c)
 
-returns : tie.Need-returns
-returns c = search rules
+pub load_word-x2-requires : goal.load_word-x2-requires
+load_word-x2-requires c = omega (arith, sized (second c))
 
-returns-2 : tie.Need-returns-2
-returns-2 c = let a = c.before.before.before.before.args in text_refused false (state_of a.s) a.piece.now a.out.now (omega (arith, c.if2.true, c.before.if1.false))
+pub store_word-requires-3 : goal.store_word-requires-3
+store_word-requires-3 c = omega (arith, length2 c, room (second c))
 
-ca-at-requires : tie.Need-ca-at-requires
-ca-at-requires c κs = search rules
+pub load_rest-x3-requires : goal.load_rest-x3-requires
+load_rest-x3-requires c = (omega (arith, sized (second (third c))), search rules)
 
-cb-at-requires : tie.Need-cb-at-requires
-cb-at-requires c κs = search rules
+pub store_rest-requires : goal.store_rest-requires
+store_rest-requires c = (omega (arith, length3 c, room (second (third c))), search rules)
 
-load-word-requires : tie.Need-load-word-requires
-load-word-requires c κs = search rules
+pub shape_of-out : goal.shape_of-out
+shape_of-out c = c.store_rest.auto.0 ∙ length3 (last c)
 
-together-word-requires : tie.Need-together-word-requires
-together-word-requires c κs = search rules
-
-store-word-requires : tie.Need-store-word-requires
-store-word-requires c κs = search rules
-
-load-word-requires-2 : tie.Need-load-word-requires-2
-load-word-requires-2 c κs = search rules
-
-together-word-requires-2 : tie.Need-together-word-requires-2
-together-word-requires-2 c κs = search rules
-
-store-word-requires-2 : tie.Need-store-word-requires-2
-store-word-requires-2 c κs = let b = c.before.before.before.before.before.before.before in omega (arith, b.Store-word.auto.0, room b)
-
-load-word-requires-3 : tie.Need-load-word-requires-3
-load-word-requires-3 c κs = let b = c.before.before.before in omega (arith, sized (second b))
-
-together-word-requires-3 : tie.Need-together-word-requires-3
-together-word-requires-3 c κs = search rules
-
-store-word-requires-3 : tie.Need-store-word-requires-3
-store-word-requires-3 c κs = let b = c.before.before.before.before.before.before.before in omega (arith, length2 b, room (second b))
-
-load-rest-requires : tie.Need-load-rest-requires
-load-rest-requires c κs = let b = c.before.before.before in (omega (arith, sized (second (third b))), search rules)
-
-together-rest-requires : tie.Need-together-rest-requires
-together-rest-requires c κs = search rules
-
-store-rest-requires : tie.Need-store-rest-requires
-store-rest-requires c κs = let b = c.before.before.before.before.before.before.before in (omega (arith, length3 b, room (second (third b))), search rules)
-
-same-length-2 : tie.Need-same-length-2
-same-length-2 c = let b = c.before.before.before in b.store-rest.auto.0 ∙ length3 (last b)
-
-returns-3 : tie.Need-returns-3
-returns-3 c =
-    let b = c.before.before.before in
-    let d = second (third (last b)) in
+pub returns : goal.returns
+returns c =
+    let d = second (third (last c)) in
     let a = (start d).args in
-    text_all false (state_of a.s) a.piece.now a.out.now 13 (state_of b.before.before.before.together-rest.result.state) b.store-rest.new.0 (omega (arith, sized d))
-    (omega (arith, sized d, room d)) (thirteen b)
-
-pub seal-13-spec : {M : Type 1} → statement M
-seal-13-spec =
-    tie.close
-    (tie.spec
-    seal-text-requires
-    same_length
-    returns
-    returns-2
-    ca-at-requires
-    cb-at-requires
-    load-word-requires
-    together-word-requires
-    store-word-requires
-    load-word-requires-2
-    together-word-requires-2
-    store-word-requires-2
-    load-word-requires-3
-    together-word-requires-3
-    store-word-requires-3
-    load-rest-requires
-    together-rest-requires
-    store-rest-requires
-    same-length-2
-    returns-3)
+    text_all false (state_of a.s) a.piece.now a.out.now 13 (state_of c.together_rest-m3.result.state) c.store_rest.new.0 (omega (arith, sized d))
+    (omega (arith, sized d, room d)) (thirteen c)

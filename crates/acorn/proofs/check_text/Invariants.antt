@@ -1,0 +1,18 @@
+use mathlib.Core.Path.{◌≡◌, refl}
+use mathlib.Core.Bool.{true}
+use Prim.Native.Nat.{◌≤◌, ◌+◌, ◌-◌, ◌*◌, ◌%◌}
+use native.Mathlib.Omega.{arith}
+use borrow.Author.Rules.{rules}
+use lib.ListN.{length}
+use Rattle.acorn_model.specs.Step.{run}
+use Rattle.acorn_model.specs.Stretches.{inputs, text_piece}
+use Rattle.acorn_kernel.specs.Together.{state_of}
+use Rattle.acorn.specs.Table.{first_step}
+use Rattle.acorn.proofs.StretchRuns.{state_none, state_all, text_more}
+use Rattle.acorn.proofs.check_text.Given as goal
+
+abbrev pub invariant-loop-i : goal.invariant-loop-i
+invariant-loop-i l = (l.whole ≡ length l.piece - length l.piece % 4) × (l.i % 4 ≡ 0) × (l.i ≤ l.whole) × (state_of l.t ≡ run (inputs (text_piece true l.piece)) (8 * l.i) (state_of l.initial.t))
+
+abbrev pub decreases-loop-i : goal.decreases-loop-i
+decreases-loop-i l = l.whole - l.i

@@ -1,0 +1,17 @@
+use mathlib.Core.Path.{◌≡◌, refl, ◌∙◌}
+use mathlib.Core.Bool.{false}
+use Prim.Native.Nat.{◌≤◌, ◌+◌, ◌-◌, ◌*◌, ◌%◌}
+use native.Mathlib.Omega.{arith}
+use borrow.Author.Rules.{rules}
+use lib.ListN.{length}
+use Rattle.acorn_kernel.specs.Together.{state_of}
+use Rattle.acorn.specs.Table.{first_step}
+use Rattle.acorn.proofs.StretchRuns.{TextUpTo, text_none, text_further, text_all, text_refused}
+use Rattle.acorn.proofs.seal_text.Given as goal
+
+abbrev pub invariant-loop-i : goal.invariant-loop-i
+invariant-loop-i l =
+    (l.whole ≡ length l.piece - length l.piece % 4) × (l.i % 4 ≡ 0) × (l.i ≤ l.whole) × (length l.out ≡ length l.initial.out) × TextUpTo false (state_of l.initial.t) l.piece l.initial.out l.i (state_of l.t) l.out
+
+abbrev pub decreases-loop-i : goal.decreases-loop-i
+decreases-loop-i l = l.whole - l.i
