@@ -28,34 +28,19 @@ use tape_writer::{Writer, WriterReply};
 
 // ---- whole messages ----
 
-#[unsafe(no_mangle)]
-pub extern "C" fn ht_seal(
-    key: &[u8],
-    nonce: &[u8],
-    data: &[u8],
-    text: &[u8],
-    out: &mut [u8],
-) -> HtWritten
+pub fn ht_seal(key: &[u8], nonce: &[u8], data: &[u8], text: &[u8], out: &mut [u8]) -> HtWritten
     ensures { SealSeen full_tag_length key.now nonce.now «data».now text.now out.old result out.new }
 {
     written(message::seal(key, nonce, data, text, out))
 }
 
-#[unsafe(no_mangle)]
-pub extern "C" fn ht_open(
-    key: &[u8],
-    nonce: &[u8],
-    data: &[u8],
-    sealed: &[u8],
-    out: &mut [u8],
-) -> HtWritten
+pub fn ht_open(key: &[u8], nonce: &[u8], data: &[u8], sealed: &[u8], out: &mut [u8]) -> HtWritten
     ensures { OpenSeen full_tag_length key.now nonce.now «data».now sealed.now out.old result out.new }
 {
     written(message::open(key, nonce, data, sealed, out))
 }
 
-#[unsafe(no_mangle)]
-pub extern "C" fn ht_seal_tag(
+pub fn ht_seal_tag(
     key: &[u8],
     nonce: &[u8],
     data: &[u8],
@@ -68,8 +53,7 @@ pub extern "C" fn ht_seal_tag(
     written(message::seal_tag(key, nonce, data, text, taglen, out))
 }
 
-#[unsafe(no_mangle)]
-pub extern "C" fn ht_open_tag(
+pub fn ht_open_tag(
     key: &[u8],
     nonce: &[u8],
     data: &[u8],
@@ -84,15 +68,13 @@ pub extern "C" fn ht_open_tag(
 
 // ---- sessions: a message in pieces ----
 
-#[unsafe(no_mangle)]
-pub extern "C" fn ht_session_fresh_sealing(s: &mut [u64; 11])
+pub fn ht_session_fresh_sealing(s: &mut [u64; 11])
     ensures { s.new ≡ words_for (machine.fresh Sealing) }
 {
     *s = Session::fresh(Kind::Sealing).words();
 }
 
-#[unsafe(no_mangle)]
-pub extern "C" fn ht_session_fresh_checking(s: &mut [u64; 11])
+pub fn ht_session_fresh_checking(s: &mut [u64; 11])
     ensures { s.new ≡ words_for (machine.fresh Checking) }
 {
     *s = Session::fresh(Kind::Checking).words();
@@ -113,61 +95,49 @@ fn session_handed_back(s: &mut [u64; 11], reply: Reply) -> HtAnswer
     told
 }
 
-#[unsafe(no_mangle)]
-pub extern "C" fn ht_session_begin(s: &mut [u64; 11], key: &[u8], nonce: &[u8]) -> HtAnswer
+pub fn ht_session_begin(s: &mut [u64; 11], key: &[u8], nonce: &[u8]) -> HtAnswer
     ensures { SessionSeen s.old (machine.begin key.now nonce.now full_tag_length) s.new result [] }
 {
     let reply = Session::from_words(s).begin(key, nonce);
     session_handed_back(s, reply)
 }
 
-#[unsafe(no_mangle)]
-pub extern "C" fn ht_session_begin_tag(
-    s: &mut [u64; 11],
-    key: &[u8],
-    nonce: &[u8],
-    taglen: usize,
-) -> HtAnswer
+pub fn ht_session_begin_tag(s: &mut [u64; 11], key: &[u8], nonce: &[u8], taglen: usize) -> HtAnswer
     ensures { SessionSeen s.old (machine.begin key.now nonce.now taglen) s.new result [] }
 {
     let reply = Session::from_words(s).begin_tag(key, nonce, taglen);
     session_handed_back(s, reply)
 }
 
-#[unsafe(no_mangle)]
-pub extern "C" fn ht_session_data(s: &mut [u64; 11], piece: &[u8]) -> HtAnswer
+pub fn ht_session_data(s: &mut [u64; 11], piece: &[u8]) -> HtAnswer
     ensures { SessionSeen s.old (machine.data_call piece.now) s.new result [] }
 {
     let reply = Session::from_words(s).data(piece);
     session_handed_back(s, reply)
 }
 
-#[unsafe(no_mangle)]
-pub extern "C" fn ht_session_seal_text(s: &mut [u64; 11], piece: &[u8], out: &mut [u8]) -> HtAnswer
+pub fn ht_session_seal_text(s: &mut [u64; 11], piece: &[u8], out: &mut [u8]) -> HtAnswer
     ensures { SessionSeen s.old (machine.seal_text piece.now out.old) s.new result out.new }
 {
     let reply = Session::from_words(s).seal_text(piece, out);
     session_handed_back(s, reply)
 }
 
-#[unsafe(no_mangle)]
-pub extern "C" fn ht_session_seal_close(s: &mut [u64; 11], out: &mut [u8]) -> HtAnswer
+pub fn ht_session_seal_close(s: &mut [u64; 11], out: &mut [u8]) -> HtAnswer
     ensures { SessionSeen s.old (machine.seal_close out.old) s.new result out.new }
 {
     let reply = Session::from_words(s).seal_close(out);
     session_handed_back(s, reply)
 }
 
-#[unsafe(no_mangle)]
-pub extern "C" fn ht_session_check_text(s: &mut [u64; 11], piece: &[u8]) -> HtAnswer
+pub fn ht_session_check_text(s: &mut [u64; 11], piece: &[u8]) -> HtAnswer
     ensures { SessionSeen s.old (machine.check_text piece.now) s.new result [] }
 {
     let reply = Session::from_words(s).check_text(piece);
     session_handed_back(s, reply)
 }
 
-#[unsafe(no_mangle)]
-pub extern "C" fn ht_session_check_close(s: &mut [u64; 11], tag: &[u8]) -> HtAnswer
+pub fn ht_session_check_close(s: &mut [u64; 11], tag: &[u8]) -> HtAnswer
     ensures { SessionSeen s.old (machine.check_close tag.now) s.new result [] }
 {
     let reply = Session::from_words(s).check_close(tag);
@@ -176,36 +146,31 @@ pub extern "C" fn ht_session_check_close(s: &mut [u64; 11], tag: &[u8]) -> HtAns
 
 // ---- tickets and heads ----
 
-#[unsafe(no_mangle)]
-pub extern "C" fn ht_pack_ticket(ticket: Ticket, out: &mut [u8]) -> HtWritten
+pub fn ht_pack_ticket(ticket: Ticket, out: &mut [u8]) -> HtWritten
     ensures { PackTicketSeen ticket out.old result out.new }
 {
     written(ticket::pack_ticket(ticket, out))
 }
 
-#[unsafe(no_mangle)]
-pub extern "C" fn ht_unpack_ticket(packed: &[u8]) -> HtUnpackedTicket
+pub fn ht_unpack_ticket(packed: &[u8]) -> HtUnpackedTicket
     ensures { UnpackTicketSeen packed.now result }
 {
     unpacked_ticket(ticket::unpack_ticket(packed))
 }
 
-#[unsafe(no_mangle)]
-pub extern "C" fn ht_move_ticket(ticket: Ticket, form: u8) -> HtUnpackedTicket
+pub fn ht_move_ticket(ticket: Ticket, form: u8) -> HtUnpackedTicket
     ensures { MoveTicketSeen ticket form result }
 {
     unpacked_ticket(forms::move_ticket(ticket, form))
 }
 
-#[unsafe(no_mangle)]
-pub extern "C" fn ht_pack_head(head: Head, out: &mut [u8]) -> HtWritten
+pub fn ht_pack_head(head: Head, out: &mut [u8]) -> HtWritten
     ensures { PackHeadSeen head out.old result out.new }
 {
     written(ticket::pack_head(head, out))
 }
 
-#[unsafe(no_mangle)]
-pub extern "C" fn ht_unpack_head(packed: &[u8]) -> HtUnpackedHead
+pub fn ht_unpack_head(packed: &[u8]) -> HtUnpackedHead
     ensures { UnpackHeadSeen packed.now result }
 {
     unpacked_head(ticket::unpack_head(packed))
@@ -213,8 +178,7 @@ pub extern "C" fn ht_unpack_head(packed: &[u8]) -> HtUnpackedHead
 
 // ---- tapes ----
 
-#[unsafe(no_mangle)]
-pub extern "C" fn ht_writer_fresh(w: &mut [u64; 12])
+pub fn ht_writer_fresh(w: &mut [u64; 12])
     ensures { w.new ≡ writer_words_for plain.fresh_writer }
 {
     *w = Writer::fresh().words();
@@ -235,13 +199,7 @@ fn writer_handed_back(w: &mut [u64; 12], reply: WriterReply) -> HtAnswer
     told
 }
 
-#[unsafe(no_mangle)]
-pub extern "C" fn ht_writer_start(
-    w: &mut [u64; 12],
-    key: &[u8],
-    head: Head,
-    out: &mut [u8],
-) -> HtAnswer
+pub fn ht_writer_start(w: &mut [u64; 12], key: &[u8], head: Head, out: &mut [u8]) -> HtAnswer
     ensures { WriterSeen w.old (plain.start key.now head out.old) w.new result out.new }
 {
     let reply = Writer::from_words(w).start(key, head, out);
@@ -249,8 +207,7 @@ pub extern "C" fn ht_writer_start(
 }
 
 // The first ticket goes another way than the others, so that the code for these has no data end in it.
-#[unsafe(no_mangle)]
-pub extern "C" fn ht_writer_add(w: &mut [u64; 12], ticket: Ticket, out: &mut [u8]) -> HtAnswer
+pub fn ht_writer_add(w: &mut [u64; 12], ticket: Ticket, out: &mut [u8]) -> HtAnswer
     ensures { WriterSeen w.old (plain.add ticket out.old) w.new result out.new }
 {
     let writer = Writer::from_words(w);
@@ -262,16 +219,14 @@ pub extern "C" fn ht_writer_add(w: &mut [u64; 12], ticket: Ticket, out: &mut [u8
     writer_handed_back(w, reply)
 }
 
-#[unsafe(no_mangle)]
-pub extern "C" fn ht_writer_finish(w: &mut [u64; 12], out: &mut [u8]) -> HtAnswer
+pub fn ht_writer_finish(w: &mut [u64; 12], out: &mut [u8]) -> HtAnswer
     ensures { WriterSeen w.old (plain.finish out.old) w.new result out.new }
 {
     let reply = Writer::from_words(w).finish(out);
     writer_handed_back(w, reply)
 }
 
-#[unsafe(no_mangle)]
-pub extern "C" fn ht_open_tape(key: &[u8], tape: &[u8], out: &mut [u8]) -> HtOpened
+pub fn ht_open_tape(key: &[u8], tape: &[u8], out: &mut [u8]) -> HtOpened
     ensures { OpenTapeSeen key.now tape.now out.old result out.new }
 {
     opened(tape_opening::open_tape(key, tape, out))
@@ -283,15 +238,13 @@ fn index(n: u64) -> usize
     n as usize
 }
 
-#[unsafe(no_mangle)]
-pub extern "C" fn ht_read_ticket(plain: &[u8], position: u64) -> HtReading
+pub fn ht_read_ticket(plain: &[u8], position: u64) -> HtReading
     ensures { ReadTicketSeen plain.now position result }
 {
     reading(reader::read_at(plain, index(position)))
 }
 
-#[unsafe(no_mangle)]
-pub extern "C" fn ht_list_tape(key: &[u8], tape: &[u8], out: &mut [u8]) -> HtWritten
+pub fn ht_list_tape(key: &[u8], tape: &[u8], out: &mut [u8]) -> HtWritten
     ensures { ListTapeSeen key.now tape.now out.old result out.new }
 {
     written(listing::list_tape(key, tape, out))
@@ -299,22 +252,19 @@ pub extern "C" fn ht_list_tape(key: &[u8], tape: &[u8], out: &mut [u8]) -> HtWri
 
 // ---- trucks out on the shift ----
 
-#[unsafe(no_mangle)]
-pub extern "C" fn ht_trucks(plain: &[u8]) -> HtTruckCount
+pub fn ht_trucks(plain: &[u8]) -> HtTruckCount
     ensures { TrucksSeen plain.now result }
 {
     truck_count(trucks::trucks(plain))
 }
 
-#[unsafe(no_mangle)]
-pub extern "C" fn ht_trucks_of_two(first: &[u8], second: &[u8]) -> HtTruckCounts
+pub fn ht_trucks_of_two(first: &[u8], second: &[u8]) -> HtTruckCounts
     ensures { TrucksOfTwoSeen first.now second.now result }
 {
     truck_counts(trucks::trucks_of_two(first, second))
 }
 
-#[unsafe(no_mangle)]
-pub extern "C" fn ht_truck_set_of(plain: &[u8], set: &mut [u64; 16]) -> HtTruckCount
+pub fn ht_truck_set_of(plain: &[u8], set: &mut [u64; 16]) -> HtTruckCount
     ensures { TruckSetSeen plain.now set.old result set.new }
 {
     let found = trucks::truck_set_of(plain);
@@ -331,16 +281,14 @@ pub extern "C" fn ht_truck_set_of(plain: &[u8], set: &mut [u64; 16]) -> HtTruckC
 
 // ---- two masts hear one tape ----
 
-#[unsafe(no_mangle)]
-pub extern "C" fn ht_parting(first: &[u8], second: &[u8]) -> HtParted
+pub fn ht_parting(first: &[u8], second: &[u8]) -> HtParted
     ensures { PartingSeen first.now second.now result }
 {
     parted(receptions::parting(first, second))
 }
 
 // What is handed back has more bytes than the first mast's reception only where it is the second's.
-#[unsafe(no_mangle)]
-pub extern "C" fn ht_longer<'a>(first: &'a [u8], second: &'a [u8]) -> HtReception
+pub fn ht_longer<'a>(first: &'a [u8], second: &'a [u8]) -> HtReception
     ensures { LongerSeen first.now second.now result }
 {
     let bytes = receptions::longer(first, second).len();
@@ -352,8 +300,7 @@ pub extern "C" fn ht_longer<'a>(first: &'a [u8], second: &'a [u8]) -> HtReceptio
 
 // ---- cab against crusher ----
 
-#[unsafe(no_mangle)]
-pub extern "C" fn ht_pair_tapes(
+pub fn ht_pair_tapes(
     first: &[u8],
     second: &[u8],
     pairs: &mut [u32],

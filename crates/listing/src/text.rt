@@ -57,7 +57,8 @@ pub(crate) fn put_line(word: &[u8], ns: &[u64], out: &mut [u8]) -> usize
     requires { length (word.now ++ model.numbers ns.now ++ model.line_end) ≤ length out.old }
     ensures { Wrote (word.now ++ model.numbers ns.now ++ model.line_end) out.old result out.new }
 {
-    let w = bytes::copy(word, out);
+    let w = word.len();
+    out[..w].copy_from_slice(word);
     let k = put_rest(ns, &mut out[w..]);
     w + k
 }

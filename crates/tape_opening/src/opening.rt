@@ -83,6 +83,6 @@ pub(crate) fn open_by(scratch: &mut [u8], key: &[u8], tape: &[u8], out: &mut [u8
         return answer;
     };
     let n = tape.len() - EMPTY_TAPE_LENGTH;
-    bytes::copy(&scratch[..n], out);
+    out[..n].copy_from_slice(&scratch[..n]);
     answer
 }
