@@ -7,7 +7,7 @@ use Prim.Native.Nat.{ℕ, zero, suc, ◌+◌, ◌-◌, ◌*◌, ◌/◌, ◌%◌
 use native.Mathlib.Omega.{arith}
 use lib.Dec.{eqb, ltb, lit<}
 use lib.ListN.{length, take, drop, length-drop, drop_of_length-le}
-use lib.Seq.{take_at, take_all, take-length}
+use lib.Seq.{take_at, take_all}
 use borrow.Author.Tests.{lt-ltb, le-ltb, eq-eqb, ne_eqb}
 use Rattle.acorn_model.specs.Bits.{Bits, ◌⊕◌, bit, bits_in}
 use Rattle.acorn_model.specs.Step.{StepInput, run, keystream_bit}
@@ -166,12 +166,11 @@ module _ (S : Bits) (n : ℕ) (out : List ℕ) where
       ∙ sym (tag_bytes-drop n S)
 
   -- and its copy
-  pub tag-bytes-copied : n ≤ full_tag_length → n ≤ length out → (part after : List ℕ) → part ≡ tag_bytes n S
-      → after ≡ take (length part) part ++ drop (length part) out → after ≡ tag_bytes_output n S out
+  pub tag-bytes-copied : n ≤ full_tag_length → n ≤ length out → (part copied : List ℕ) → part ≡ tag_bytes n S → copied ≡ part
+      → copied ++ drop n out ≡ tag_bytes_output n S out
   unfolding written_over
-  tag-bytes-copied h l part after part_is after_is =
-      after_is ∙ ap (λ (t : List ℕ). t ++ drop (length part) out) (take-length part) ∙ ap (λ (t : List ℕ). written_over t out) part_is
-      ∙ sym (tag-written h l)
+  tag-bytes-copied h l part copied part_is copied_is =
+      ap₂ (λ (t : List ℕ) (k : ℕ). t ++ drop k out) (copied_is ∙ part_is) (sym (tag_bytes-length n h S)) ∙ sym (tag-written h l)
 
   -- at the start of an output that has room for them, and for a number that is cut to what the full tag has
   pub tag_front : n ≤ full_tag_length → n ≤ length out → (after : List ℕ) → after ≡ tag_bytes_output n S out → take n after ≡ tag_bytes n S

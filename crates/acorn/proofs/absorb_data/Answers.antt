@@ -1,11 +1,9 @@
 -- `acorn::absorb_data` meets its contract. The invariant: i bytes of the piece, a multiple of 4, are run.
-use mathlib.Core.Path.{◌≡◌, refl}
-use Prim.Native.Nat.{◌≤◌, ◌+◌, ◌-◌, ◌*◌, ◌%◌}
+use mathlib.Core.Path.{refl}
+use Prim.Native.Nat.{◌+◌, ◌-◌, ◌*◌, ◌%◌}
 use native.Mathlib.Omega.{arith}
-use borrow.Author.Rules.{rules}
 use lib.ListN.{length}
-use Rattle.acorn_model.specs.Step.{run}
-use Rattle.acorn_model.specs.Stretches.{inputs, data_piece}
+use Rattle.acorn_model.specs.Stretches.{data_piece}
 use Rattle.acorn_kernel.specs.Together.{state_of}
 use Rattle.acorn.specs.Table.{first_step}
 use Rattle.acorn.proofs.StretchRuns.{state_none, state_all, data_more}

@@ -1,13 +1,9 @@
-use mathlib.Core.Path.{◌≡◌, refl}
-use Prim.Native.Nat.{◌≤◌, ◌+◌, ◌-◌, ◌*◌, ◌%◌}
-use native.Mathlib.Omega.{arith}
-use borrow.Author.Rules.{rules}
+use mathlib.Core.Path.{◌≡◌}
+use Prim.Native.Nat.{◌≤◌, ◌-◌, ◌*◌, ◌%◌}
 use lib.ListN.{length}
 use Rattle.acorn_model.specs.Step.{run}
 use Rattle.acorn_model.specs.Stretches.{inputs, data_piece}
 use Rattle.acorn_kernel.specs.Together.{state_of}
-use Rattle.acorn.specs.Table.{first_step}
-use Rattle.acorn.proofs.StretchRuns.{state_none, state_all, data_more}
 use Rattle.acorn.proofs.absorb_data.Given as goal
 
 abbrev pub invariant-loop-i : goal.invariant-loop-i

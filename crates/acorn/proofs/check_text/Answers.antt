@@ -1,12 +1,10 @@
 -- `acorn::check_text` meets its contract. The invariant: i bytes of the piece, a multiple of 4, are run.
-use mathlib.Core.Path.{◌≡◌, refl}
+use mathlib.Core.Path.{refl}
 use mathlib.Core.Bool.{true}
-use Prim.Native.Nat.{◌≤◌, ◌+◌, ◌-◌, ◌*◌, ◌%◌}
+use Prim.Native.Nat.{◌+◌, ◌-◌, ◌*◌, ◌%◌}
 use native.Mathlib.Omega.{arith}
-use borrow.Author.Rules.{rules}
 use lib.ListN.{length}
-use Rattle.acorn_model.specs.Step.{run}
-use Rattle.acorn_model.specs.Stretches.{inputs, text_piece}
+use Rattle.acorn_model.specs.Stretches.{text_piece}
 use Rattle.acorn_kernel.specs.Together.{state_of}
 use Rattle.acorn.specs.Table.{first_step}
 use Rattle.acorn.proofs.StretchRuns.{state_none, state_all, text_more}

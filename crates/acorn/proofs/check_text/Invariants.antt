@@ -1,14 +1,10 @@
-use mathlib.Core.Path.{◌≡◌, refl}
+use mathlib.Core.Path.{◌≡◌}
 use mathlib.Core.Bool.{true}
-use Prim.Native.Nat.{◌≤◌, ◌+◌, ◌-◌, ◌*◌, ◌%◌}
-use native.Mathlib.Omega.{arith}
-use borrow.Author.Rules.{rules}
+use Prim.Native.Nat.{◌≤◌, ◌-◌, ◌*◌, ◌%◌}
 use lib.ListN.{length}
 use Rattle.acorn_model.specs.Step.{run}
 use Rattle.acorn_model.specs.Stretches.{inputs, text_piece}
 use Rattle.acorn_kernel.specs.Together.{state_of}
-use Rattle.acorn.specs.Table.{first_step}
-use Rattle.acorn.proofs.StretchRuns.{state_none, state_all, text_more}
 use Rattle.acorn.proofs.check_text.Given as goal
 
 abbrev pub invariant-loop-i : goal.invariant-loop-i

@@ -1,11 +1,8 @@
 -- `acorn::end_text` meets its contract. The invariant: n steps of the end, a multiple of 32, are run.
-use mathlib.Core.Path.{◌≡◌, ◌∙◌}
+use mathlib.Core.Path.{◌∙◌}
 use mathlib.Core.Bool.{false}
-use Prim.Native.Nat.{◌≤◌, ◌-◌, ◌%◌}
 use native.Mathlib.Omega.{arith}
-use borrow.Author.Rules.{rules}
-use Rattle.acorn_model.specs.Step.{run}
-use Rattle.acorn_model.specs.Stretches.{inputs, text_end}
+use Rattle.acorn_model.specs.Stretches.{text_end}
 use Rattle.acorn_kernel.specs.Together.{state_of}
 use Rattle.acorn.specs.Table.{first_step, row_of}
 use Rattle.acorn.specs.declared.stretch.StretchName.TheVariants.{TextEnd}

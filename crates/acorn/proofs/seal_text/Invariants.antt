@@ -1,12 +1,9 @@
-use mathlib.Core.Path.{◌≡◌, refl, ◌∙◌}
+use mathlib.Core.Path.{◌≡◌}
 use mathlib.Core.Bool.{false}
-use Prim.Native.Nat.{◌≤◌, ◌+◌, ◌-◌, ◌*◌, ◌%◌}
-use native.Mathlib.Omega.{arith}
-use borrow.Author.Rules.{rules}
+use Prim.Native.Nat.{◌≤◌, ◌-◌, ◌%◌}
 use lib.ListN.{length}
 use Rattle.acorn_kernel.specs.Together.{state_of}
-use Rattle.acorn.specs.Table.{first_step}
-use Rattle.acorn.proofs.StretchRuns.{TextUpTo, text_none, text_further, text_all, text_refused}
+use Rattle.acorn.proofs.StretchRuns.{TextUpTo}
 use Rattle.acorn.proofs.seal_text.Given as goal
 
 abbrev pub invariant-loop-i : goal.invariant-loop-i

@@ -1,10 +1,7 @@
 -- `acorn::start` meets its contract. The invariant of each loop: n steps of start, a multiple of 32, are run.
-use mathlib.Core.Path.{◌≡◌, sym, ◌∙◌}
-use Prim.Native.Nat.{◌≤◌, ◌-◌, ◌%◌}
+use mathlib.Core.Path.{sym, ◌∙◌}
 use native.Mathlib.Omega.{arith}
-use borrow.Author.Rules.{rules}
-use Rattle.acorn_model.specs.Step.{run}
-use Rattle.acorn_model.specs.Stretches.{inputs, zeros, start}
+use Rattle.acorn_model.specs.Stretches.{zeros, start}
 use Rattle.acorn_kernel.specs.Together.{state_of}
 use Rattle.acorn.proofs.StretchRuns.{state_none, state_all}
 use Rattle.acorn.proofs.FixedRuns.{start_key, start_nonce, start_more, start_all, start_key_size, start_nonce_size}

@@ -1,12 +1,8 @@
-use mathlib.Core.Path.{◌≡◌, sym, ◌∙◌}
+use mathlib.Core.Path.{◌≡◌}
 use Prim.Native.Nat.{◌≤◌, ◌-◌, ◌%◌}
-use native.Mathlib.Omega.{arith}
-use borrow.Author.Rules.{rules}
 use Rattle.acorn_model.specs.Step.{run}
 use Rattle.acorn_model.specs.Stretches.{inputs, zeros, start}
 use Rattle.acorn_kernel.specs.Together.{state_of}
-use Rattle.acorn.proofs.StretchRuns.{state_none, state_all}
-use Rattle.acorn.proofs.FixedRuns.{start_key, start_nonce, start_more, start_all, start_key_size, start_nonce_size}
 use Rattle.acorn.proofs.start.Given as goal
 
 abbrev pub invariant-loop-n : goal.invariant-loop-n

@@ -1,15 +1,14 @@
 -- `acorn::write_tag` meets its contract. The first loop runs final up to the tag, and the second writes the ks of the rest.
 use mathlib.Core.Path.{◌≡◌, refl, ap, ◌∙◌}
-use Prim.Native.Nat.{ℕ, ◌≤◌, ◌+◌, ◌-◌, ◌*◌, ◌%◌}
+use Prim.Native.Nat.{ℕ, ◌+◌, ◌*◌}
 use native.Mathlib.Omega.{arith}
-use borrow.Author.Rules.{rules}
 use mathlib.Core.List.{◌++◌}
-use lib.ListN.{length, drop}
+use lib.ListN.{drop}
 use Rattle.acorn_model.specs.Bits.{bytes}
 use Rattle.acorn_model.specs.Step.{run}
 use Rattle.acorn_model.specs.Stretches.{inputs, keystream, final}
 use Rattle.acorn_kernel.specs.Together.{state_of}
-use Rattle.acorn.proofs.StretchRuns.{state_none, Written, written_none, written_more}
+use Rattle.acorn.proofs.StretchRuns.{state_none, written_none, written_more}
 use Rattle.acorn.proofs.FixedRuns.{final_more, final_ks, tag_all, tag_refused}
 use Rattle.acorn.proofs.write_tag.Goals as goal
 
@@ -41,16 +40,16 @@ loop-i-preserved c =
     let out₀ = c.args.out.now in
     let controls = c.controls_at-c-in-loop-i in
     let steps = c.together_word-m-in-loop-i in
-    let store = c.Store-word in
+    let store = c.store_word in
     let e : 8 * v.i + 32 ≡ 8 * (v.i + 4) = omega arith in (
       omega arith,
       omega arith,
       omega arith,
-      store.auto.0 ∙ v.invariant.3,
+      store.auto.dst ∙ v.invariant.3,
       final_more T (state_of v.t) (state_of steps.result.state) (1050880 + v.n) (8 * v.i) steps.result.ks controls.result.ca controls.result.cb
           (omega arith) controls.ensures.ca_is controls.ensures.cb_is v.invariant.4 steps.ensures
           ∙ ap (λ (q : ℕ). run (inputs final) q T) e,
-      written_more (keystream final T) out₀ v.out store.new.0 v.i 4 steps.result.ks (omega arith) v.invariant.5
+      written_more (keystream final T) out₀ v.out store.new.dst v.i 4 steps.result.ks (omega arith) v.invariant.5
           (final_ks T (state_of v.t) (state_of steps.result.state) (1050880 + v.n) (8 * v.i) steps.result.ks controls.result.ca controls.result.cb
           (omega arith) controls.ensures.ca_is controls.ensures.cb_is v.invariant.4 steps.ensures) store.ensures,
     )

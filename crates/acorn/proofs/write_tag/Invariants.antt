@@ -1,15 +1,10 @@
-use mathlib.Core.Path.{◌≡◌, refl, ap, ◌∙◌}
-use Prim.Native.Nat.{ℕ, ◌≤◌, ◌+◌, ◌-◌, ◌*◌, ◌%◌}
-use native.Mathlib.Omega.{arith}
-use borrow.Author.Rules.{rules}
-use mathlib.Core.List.{◌++◌}
-use lib.ListN.{length, drop}
-use Rattle.acorn_model.specs.Bits.{bytes}
+use mathlib.Core.Path.{◌≡◌}
+use Prim.Native.Nat.{◌≤◌, ◌+◌, ◌-◌, ◌*◌, ◌%◌}
+use lib.ListN.{length}
 use Rattle.acorn_model.specs.Step.{run}
 use Rattle.acorn_model.specs.Stretches.{inputs, keystream, final}
 use Rattle.acorn_kernel.specs.Together.{state_of}
-use Rattle.acorn.proofs.StretchRuns.{state_none, Written, written_none, written_more}
-use Rattle.acorn.proofs.FixedRuns.{final_more, final_ks, tag_all, tag_refused}
+use Rattle.acorn.proofs.StretchRuns.{Written}
 use Rattle.acorn.proofs.write_tag.Given as goal
 
 abbrev pub invariant-loop-n : goal.invariant-loop-n

@@ -1,5 +1,4 @@
 -- `acorn::stretch::ca_at` meets its contract.
-use borrow.Author.Rules.{rules}
 use Rattle.acorn.proofs.stretch.ca_at.Goals as goal
 
 pub returns : goal.returns

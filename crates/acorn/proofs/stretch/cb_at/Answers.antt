@@ -1,5 +1,4 @@
 -- `acorn::stretch::cb_at` meets its contract.
-use borrow.Author.Rules.{rules}
 use Rattle.acorn.proofs.stretch.cb_at.Goals as goal
 
 pub returns : goal.returns

@@ -2,7 +2,6 @@
 use mathlib.Core.Path.{sym, ◌∙◌}
 use Prim.Native.Nat.{◌-◌}
 use native.Mathlib.Omega.{arith}
-use borrow.Author.Rules.{rules}
 use borrow.Author.Tests.{lt-ltb, le-ltb}
 use Rattle.acorn.specs.Table.{row_of, first_step}
 use Rattle.acorn.specs.declared.stretch.StretchName.TheVariants.{Start, Data, DataEnd, Text, TextEnd, Final}

@@ -1,6 +1,5 @@
 -- `acorn::stretch::key_again` meets its contract.
 use mathlib.Core.Path.{sym, ap₂, ◌∙◌}
-use borrow.Author.Rules.{rules}
 use Rattle.acorn_model.specs.Bits.{◌⊕◌}
 use Rattle.acorn_kernel.proofs.WordBits.{bit-xor}
 use Rattle.acorn.proofs.FixedRuns.{start-again}

@@ -4,7 +4,6 @@ use Prim.Native.Nat.{◌/◌, ◌*◌, ◌^◌}
 use lib.Bits.{and_mask}
 use mir.Facts.{Fits-mask}
 use Rattle.acorn.proofs.Strings.{byte_is}
-use borrow.Author.Rules.{rules}
 use Rattle.acorn.proofs.word_bytes.byte_of.Goals as goal
 
 pub overflow_cast-result-2 : goal.overflow_cast-result-2

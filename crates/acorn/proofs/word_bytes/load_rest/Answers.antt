@@ -1,7 +1,6 @@
 -- `acorn::word_bytes::load_rest` meets its contract.
 use native.Mathlib.Omega.{arith}
 use Rattle.acorn.proofs.Strings.{one_byte, two_bytes, three-bytes}
-use borrow.Author.Rules.{rules}
 use Rattle.acorn.proofs.word_bytes.load_rest.Goals as goal
 
 pub returns-then-k-lt2 : goal.returns-then-k-lt2

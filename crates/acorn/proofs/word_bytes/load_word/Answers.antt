@@ -1,7 +1,6 @@
 -- `acorn::word_bytes::load_word` meets its contract.
 use native.Mathlib.Omega.{arith}
 use Rattle.acorn.proofs.Strings.{four_bytes}
-use borrow.Author.Rules.{rules}
 use Rattle.acorn.proofs.word_bytes.load_word.Goals as goal
 
 pub returns : goal.returns

@@ -5,7 +5,6 @@ use lib.ListN.{length-set}
 use lib.Seq.{paste}
 use Rattle.acorn_model.specs.Bits.{bit, bytes}
 use Rattle.acorn.proofs.Strings.{stored1, stored2, stored3}
-use borrow.Author.Rules.{rules}
 use Rattle.acorn.proofs.word_bytes.store_rest.Goals as goal
 
 pub returns-then-k-eq1 : goal.returns-then-k-eq1

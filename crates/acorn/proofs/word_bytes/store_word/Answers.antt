@@ -2,7 +2,6 @@
 use native.Mathlib.Omega.{arith}
 use lib.ListN.{length-set}
 use Rattle.acorn.proofs.Strings.{stored4}
-use borrow.Author.Rules.{rules}
 use Rattle.acorn.proofs.word_bytes.store_word.Goals as goal
 
 pub bounds-dst-at-2 : goal.bounds-dst-at-2
