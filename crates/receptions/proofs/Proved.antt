@@ -10,14 +10,14 @@ use lib.Dec.{eqb}
 use lib.ListN.{length, take, drop, get_or, length-append}
 use lib.Seq.{take-length, length-take-le}
 use borrow.Author.Tests.{lt-ltb, le-ltb}
-use denote.Ref.{MutBor}
+use denote.Ref.{Bor}
 use Rattle.calls.specs.Calls.{refused, result_of, unless_refused}
 use Rattle.calls.proofs.Choices.{lt_or_ge}
 use Rattle.acorn_model.specs.Machine.{key_length}
 use Rattle.tape_model.specs.Tape.{is_tape_length, open_tape_refusal, open_tape}
 use Rattle.tape_model.specs.Listing.{listing}
 use Rattle.tape_model.proofs.Tapes.{tapes_come_back}
-use Rattle.receptions.specs.Receptions.{Part, first_mast, second_mast, Mast, of_mast, PartingReply, refused_at, not_parted, parting, is_beginning, all_of_longer, no_bytes, longer, longer_bytes}
+use Rattle.receptions.specs.Receptions.{Part, first_mast, second_mast, Mast, of_mast, PartingReply, refused_at, not_parted, parting, is_beginning, no_bytes, longer, longer_bytes}
 use Rattle.receptions.specs.Clauses.{IsPart}
 use Rattle.receptions.specs.Laws.{FirstDifferenceAt, Begins, PlaceLaws, LongerLaws, SliceLaws, ReceptionLaws}
 use Rattle.receptions.specs.Opening.{HeardWhole, OpeningLaws, SliceOpens, JoinedToOpening}
@@ -200,7 +200,7 @@ of_one-tape tape a b p q =
 
 -- ## The slice handed back
 
-module _ (first second r : MutBor (List ℕ)) (part : IsPart (longer first.now second.now) first second r) where
+module _ (first second r : Bor (List ℕ)) (part : IsPart (longer first.now second.now) first second r) where
   -- by the part that the definition names
   is : (p : Part) → longer first.now second.now ≡ p
       → (r.ref_ptr ≡ of_mast p.mast first.ref_ptr second.ref_ptr) × (r.now ≡ take p.bytes (of_mast p.mast first.now second.now))
@@ -249,7 +249,7 @@ none_opens : (key out : List ℕ) → open_tape key [] out ≡ record { answer =
 unfolding open_tape open_tape_refusal is_tape_length result_of unless_refused
 none_opens key out = rw (and-false (eqb (length key) key_length)) refl
 
-slice_opens : (first second r : MutBor (List ℕ)) (part : IsPart (longer first.now second.now) first second r) → SliceOpens first second r part
+slice_opens : (first second r : Bor (List ℕ)) (part : IsPart (longer first.now second.now) first second r) → SliceOpens first second r part
 unfolding longer_bytes
 slice_opens first second r part = record {
   whole = λ key head tickets sixteen right valid few heard out room.

@@ -107,8 +107,8 @@ below_right l m = below_more (top m) (bound l m) m (omega arith) (below_top m)
 -- ## Two lists
 
 module _ (l m : List ℕ) where
-  pub on_both : (k : ℕ) → on (filter (on m) l) k ≡ intersection (on l) (on m) k
-  on_both k = on-filter (on m) l k
+  pub member-both : (k : ℕ) → on (filter (on m) l) k ≡ intersection (on l) (on m) k
+  member-both k = on-filter (on m) l k
 
   pub on-just-one : (k : ℕ) → on (except (on m) l ++ except (on l) m) k ≡ symmetric_difference (on l) (on m) k
   unfolding except
@@ -130,7 +130,7 @@ module _ (l m : List ℕ) where
 
     pub both_places : length (on_both l m) ≡ count n (intersection (on l) (on m))
     unfolding on_both
-    both_places = placed (filter (on m) l) (intersection (on l) (on m)) on_both (λ k h. bl k (left (on l k) (on m k) h))
+    both_places = placed (filter (on m) l) (intersection (on l) (on m)) member-both (λ k h. bl k (left (on l k) (on m k) h))
       where
         left : (a b : Bool) → (a && b) ≡ true → a ≡ true
         left true b h = refl

@@ -6,7 +6,7 @@ use mathlib.Core.Logic.{◌↔◌}
 use Prim.Native.Nat.{ℕ, ◌+◌, ◌/◌, ◌%◌, ◌≤◌}
 use native.Mathlib.Omega.{arith}
 use lib.Dec.{eqb, leb}
-use lib.ListN.{length, get_or}
+use lib.ListN.{get_or}
 use borrow.Author.Tests.{eq-eqb, eqb-true, leb-true, leb-false, le-leb}
 use Rattle.calls.specs.Calls.{◌if◌else◌, Reply, refused, done, map_reply, map_replies, unless_refused}
 use Rattle.acorn_model.specs.Bits.{bit, number}
@@ -20,7 +20,7 @@ use Rattle.trucks.specs.Words.{held, set_bits, one, words_of, set_words, count, 
 use Rattle.trucks.specs.Laws.{occurrences, HasTruck, SameTrucks, TruckLaws, WordLaws}
 use Rattle.trucks.specs.Cases.{TruckCases}
 use Rattle.trucks.proofs.Counting.{told, count_same, either_both, just_one-both}
-use Rattle.trucks.proofs.Lists.{Below, again, on-joined, on_both, on-just-one, once, by_places, both_places, either_places, just_one_places, bound, below_left, below_right}
+use Rattle.trucks.proofs.Lists.{Below, again, on-joined, member-both, on-just-one, once, by_places, both_places, either_places, just_one_places, bound, below_left, below_right}
 use Rattle.trucks.proofs.Words.{bit_power, in_word, set_bits_16, sixteen-words, held-words, words_back}
 use Rattle.trucks.proofs.Gathering.{same-counts, held-trucks, valid-trucks, found-tickets, count-by-set, counts-by_sets}
 
@@ -60,7 +60,7 @@ module _ (ts us : List Ticket) where
 
   once-both : (k : ℕ) → occurrences k (on_both l m) ≡ one (intersection (truck_set ts) (truck_set us) k)
   unfolding on_both truck_set
-  once-both k = once (filter (on m) l) k ∙ ap one (on_both l m k)
+  once-both k = once (filter (on m) l) k ∙ ap one (member-both l m k)
 
   once_either : (k : ℕ) → occurrences k (on_either l m) ≡ one (union (truck_set ts) (truck_set us) k)
   unfolding on_either truck_set

@@ -1,12 +1,8 @@
 -- `equal_groups` meets its contract.
-use mathlib.Core.Path.{◌≡◌, refl, sym, ap, ◌∙◌}
-use Prim.Native.Nat.{◌+◌, ◌-◌, ◌≤◌}
+use mathlib.Core.Path.{sym, ◌∙◌}
+use Prim.Native.Nat.{◌+◌}
 use native.Mathlib.Omega.{arith}
-use borrow.Author.Rules.{rules}
-use borrow.Author.Tests.{not-false}
-use lib.ListN.{length}
 use Rattle.calls.proofs.SameBytes.{same-bytes-true}
-use Rattle.receptions.specs.Laws.{AgreeBefore}
 use Rattle.receptions.proofs.Places.{agree_further}
 use Rattle.receptions.proofs.equal_groups.Goals as goal
 

@@ -1,12 +1,5 @@
-use mathlib.Core.Path.{◌≡◌, refl, sym, ap, ◌∙◌}
-use Prim.Native.Nat.{◌+◌, ◌-◌, ◌≤◌}
-use native.Mathlib.Omega.{arith}
-use borrow.Author.Rules.{rules}
-use borrow.Author.Tests.{not-false}
-use lib.ListN.{length}
-use Rattle.calls.proofs.SameBytes.{same-bytes-true}
+use Prim.Native.Nat.{◌-◌, ◌≤◌}
 use Rattle.receptions.specs.Laws.{AgreeBefore}
-use Rattle.receptions.proofs.Places.{agree_further}
 use Rattle.receptions.proofs.equal_groups.Given as goal
 
 abbrev pub invariant-loop-i : goal.invariant-loop-i
