@@ -7,7 +7,7 @@ test=$(basename "$0")
 root=$PWD
 program=$root/target/bin/$crate
 if [ ! -x "$program" ]; then
-    echo "$test: target/bin/$crate is missing; 'rt check $crate' builds it"
+    echo "$test: target/bin/$crate is missing; 'tools/build $crate' builds it"
     exit 1
 fi
 work=$(mktemp -d)
@@ -90,17 +90,19 @@ make_tree() {
     mkdir -p "$work/tree/crates"/{first,second,other,"$crate"}/src "$work/tools" "$work/no_rt"
     cp -R "$root/$script" "$root/tools" "$root/samples" "$work/tree"
     cat > "$work/tree/crates.txt" << END
-$crate: second io libc # the program, before the crates that it uses
+$crate: second # the program, before the crates that it uses
 first:
 second: first
 other: first
 END
-    for one in first second other "$crate"; do
+    for one in first second other; do
         echo "// $one" > "$work/tree/crates/$one/src/lib.rt"
     done
+    echo "// $crate" > "$work/tree/crates/$crate/src/main.rt"
     cat > "$work/tools/rt" << END
 #!/usr/bin/env bash
-[ "\$PWD" = "$work/tree" ] && [ "\$*" = "check $crate" ] && . "$work/rt_does"
+one=\${PWD#"$work/tree/crates/"}
+case "\$one \$*" in "$crate run" | "first lib" | "second lib" | "second run") . "$work/rt_does" ;; *) exit 2 ;; esac
 END
     chmod +x "$work/tools/rt"
     for one in bash env dirname readlink mktemp rm head tail wc cat tr awk sort cut find xargs sha256sum tee; do
@@ -111,29 +113,30 @@ END
 # proves: from now on the stand-in prints as rt does where two of the three crates are to be proved, one of them slowly, and builds the program
 proves() {
     cat > "$work/rt_does" << END
-mkdir -p target/log target/bin
-echo "rt: first proved (unchanged since it was last proved)"
-: > target/log/second.out
-for i in {1..300}; do # until the script has said so
-    grep -q "proving second" "$work/said" && break
-    sleep 0.1
-done
-cp "$work/said" "$work/said_meanwhile"
-echo "logic=proved functions=1" > target/log/second.out
-cat target/log/second.out
-echo "rt: second proved (1 s)"
-echo "rt: $crate proved (0 s)"
-cp "$program" target/bin
-echo "rt: $crate ran as nobody, and wrote what its file 'stdout' has (0 s)"
-echo "rt: ok, 3 crates proved"
+case \$one in
+second)
+    for i in {1..300}; do # until the script has said so
+        grep -q "proving second" "$work/said" && break
+        sleep 0.1
+    done
+    cp "$work/said" "$work/said_meanwhile"
+    echo "logic=proved functions=1"
+    ;;
+$crate)
+    echo "logic=proved functions=1"
+    mkdir -p out
+    cp "$program" out
+    echo "rt: running out/$crate; to give it other input, run that file yourself"
+    ;;
+esac
 END
 }
 
 # unchanged: from now on it finds all proved
-unchanged() { echo "echo \"rt: $crate proved (unchanged since it was last proved)\"; touch called" > "$work/rt_does"; }
+unchanged() { echo "touch '$work/tree/called'" > "$work/rt_does"; }
 
 # fails: from now on it proves nothing
-fails() { echo 'echo "rt: second NOT PROVED (exit 1, 0 s)"; exit 1' > "$work/rt_does"; }
+fails() { echo 'echo "logic=not-proved"; exit 1' > "$work/rt_does"; }
 
 # in_tree [ARGUMENT ...]: runs the tree's script with the stand-in
 in_tree() { run env "PATH=$tool_path" "$work/tree/$script" "$@"; }
@@ -145,7 +148,7 @@ without_rt() { run env "PATH=$work/no_rt" "$work/tree/$script" "$@"; }
 proof_called() {
     fails
     in_tree "${@:2}"
-    gives "$1" 1 /dev/null "rt: second NOT PROVED (exit 1, 0 s)" "$script: the program was not proved"
+    gives "$1" 1 /dev/null "logic=not-proved" "$script: the program was not proved"
 }
 
 # proof_not_called NAME EXPECTED [ARGUMENT ...]: it must print without an rt that does anything

@@ -6,6 +6,8 @@
 #   called   what the program is called
 # and has a function usage, whose first line is the short form. What the program prints goes to standard output, and all else to standard error.
 
+. "$here/tools/crates_needed.bash"
+
 program=$here/target/bin/$crate
 # what the program on hand was proved and built from, and its own sum
 stamp=$here/target/$script.proved
@@ -132,65 +134,36 @@ size_hints() {
 
 # ---- the program
 
-# Prints the program's crates, those of the repository that it depends on and itself, in the order in which rt takes them: a crate after all
-# crates that it uses, by the length of the longest way down.
-crates_needed() {
-    awk -v program="$crate" '
-        function visit(name, used, count, i, level) {
-            if (name in at) return
-            at[name] = 0
-            count = split(uses[name], used, " ")
-            level = 0
-            for (i = 1; i <= count; i++) if (used[i] in uses) {
-                visit(used[i])
-                if (at[used[i]] >= level) level = at[used[i]] + 1
-            }
-            at[name] = level
-            print level ":" name
-        }
-        { sub(/#.*/, "") }
-        index($0, ":") {
-            name = substr($0, 1, index($0, ":") - 1)
-            gsub(/[ \t]/, "", name)
-            uses[name] = substr($0, index($0, ":") + 1)
-        }
-        END { if (program in uses) visit(program) }' "$here/crates.txt" | sort -s -t: -n -k1,1 | cut -d: -f2
-}
-
 # The sum of every file of these crates and of crates.txt, names too. It goes by what the files hold, and not by their times: a file put back
 # from an archive is older than the program, and one edited while the proof ran may be, too.
 source_sum() {
-    (cd "$here" && find crates.txt "${crates[@]/#/crates/}" \( -type f -o -type l \) -print0 | LC_ALL=C sort -z | xargs -0 sha256sum -- | sha256sum)
+    (cd "$here" && find crates.txt "${crates[@]/#/crates/}" -name out -prune -o -type f -print0 | LC_ALL=C sort -z | xargs -0 sha256sum -- | sha256sum)
 }
 
 program_sum() { sha256sum < "$program"; }
 
-# Reads what rt prints and says which crate is being proved, and nothing of those that are proved already. rt prints when a crate is done; from
-# its start until then the crate's log, target/log/NAME.out, is there and empty. Crates that do not use each other may be proved at the same time.
+# Reads what tools/build prints and says which crate is being proved, and nothing of those that are proved already: of such a crate rt says nothing, in
+# less than a second.
 progress() {
-    local line part='' one log
-    local -A place=() said=() seen=()
+    local line part='' one now='' waited=0
+    local -A place=() said=()
     for one in "${crates[@]}"; do
         place[$one]=$((${#place[@]} + 1))
     done
     while true; do
-        if IFS= read -r -t 0.3 line; then
+        if IFS= read -r -t 0.5 line; then
             line=$part$line part=''
-            if [[ $line =~ ^rt:\ ([A-Za-z0-9_]+)\ proved\ \([0-9]+\ s\)$ ]]; then
-                tell "${BASH_REMATCH[1]}"
+            if [[ $line =~ ^build:\ ([A-Za-z0-9_]+)$ ]]; then
+                now=${BASH_REMATCH[1]} waited=0
+            elif [[ $line =~ ^(rt: chose|checked|fn|logic=proved) ]]; then
+                tell "$now"
             fi
         elif [ $? -gt 128 ]; then # nothing for a while
             part+=$line
-            for one in "${crates[@]}"; do
-                log=$here/target/log/$one.out
-                if [ -f "$log" ] && [ ! -s "$log" ] && [ "$log" -nt "$work/began" ]; then
-                    # for a moment the log of a crate that needs no proof is empty, too
-                    if [ -n "${seen[$one]-}" ]; then
-                        tell "$one"
-                    fi
-                    seen[$one]=1
-                fi
-            done
+            waited=$((waited + 1))
+            if [ $waited -ge 3 ]; then
+                tell "$now"
+            fi
         else
             break
         fi
@@ -199,7 +172,7 @@ progress() {
 
 # says of a crate, once, that it is being proved; for progress
 tell() { # CRATE
-    if [ -z "${place[$1]-}" ] || [ -n "${said[$1]-}" ]; then
+    if [ -z "$1" ] || [ -z "${place[$1]-}" ] || [ -n "${said[$1]-}" ]; then
         return
     fi
     if [ ${#said[@]} -eq 0 ]; then
@@ -212,7 +185,7 @@ tell() { # CRATE
 # Proves and builds the program, unless the one on hand is proved and built from the present source.
 prove() {
     local crates sources status
-    mapfile -t crates < <(crates_needed)
+    mapfile -t crates < <(crates_needed "$crate")
     sources=$(source_sum 2> /dev/null) || sources='' # a crate is missing, which rt will say
     if [ -n "$sources" ] && [ -x "$program" ] && [ -f "$stamp" ] && [ "$(cat "$stamp")" = "$sources $(program_sum)" ]; then
         return
@@ -221,16 +194,12 @@ prove() {
         note "the Rattle toolchain's command 'rt' is not on the path"
         exit 2
     fi
-    if [ ! -x "$program" ]; then
-        rm -f "$here/target/stamp/$crate" # or rt would take it as built
-    fi
-    : > "$work/began"
     set +e
-    (cd "$here" && exec rt check "$crate" < /dev/null 2>&1) | tee "$work/log" | progress
+    "$here/tools/build" "$crate" < /dev/null 2>&1 | tee "$work/log" | progress
     status=${PIPESTATUS[0]}
     set -e
     if [ "$status" -ne 0 ] || [ ! -x "$program" ]; then
-        tail -n 20 "$work/log" >&2
+        grep -v '^build: ' "$work/log" | tail -n 20 >&2
         note "the program was not proved"
         exit 1
     fi

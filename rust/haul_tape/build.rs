@@ -17,7 +17,7 @@ fn main() {
     if !library.is_file() {
         println!(
             "cargo::warning=there is no {}, so nothing that uses it can be linked: build it with \
-             `rt staticlib haul_tape`, or name its directory in HAUL_TAPE_LIB_DIR",
+             `tools/build haul_tape`, or name its directory in HAUL_TAPE_LIB_DIR",
             library.display()
         );
     }

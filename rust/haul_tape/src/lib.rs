@@ -76,7 +76,7 @@
 //!
 //! # The static library
 //!
-//! `rt staticlib haul_tape` writes it, for x86-64, to `target/staticlib`, where this crate looks for
+//! `tools/build haul_tape` writes it, for x86-64, to `target/staticlib`, where this crate looks for
 //! it unless the environment variable `HAUL_TAPE_LIB_DIR` names another directory, by an absolute path.
 //! It needs `memcpy` and `memset`. `cargo check` and `cargo doc` do without the library.
 //!

@@ -33,7 +33,7 @@ const HIGH_RATES: [u64; 6] = [
 fn ran(input: &[u8]) -> Vec<u8> {
     assert!(
         Path::new(PROGRAM).is_file(),
-        "target/bin/print_pay_sheet is missing; 'rt check print_pay_sheet' builds it"
+        "target/bin/print_pay_sheet is missing; 'tools/build print_pay_sheet' builds it"
     );
     let mut program = Command::new(PROGRAM)
         .stdin(Stdio::piped())
