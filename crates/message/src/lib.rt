@@ -153,7 +153,7 @@ fn hand_over(good: bool, scratch: &mut [u8], n: usize, out: &mut [u8])
     ensures scratch_after { scratch.new ≡ (scratch.old if good else replicate (length scratch.old) 0) }
 {
     if good {
-        bytes::copy(&scratch[..n], out);
+        out[..n].copy_from_slice(&scratch[..n]);
     } else {
         zeroize(scratch);
     }
