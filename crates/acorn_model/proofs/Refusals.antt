@@ -1,9 +1,9 @@
 -- The machine's chain of refusal numbers: what a call has passed that the machine accepts.
 use mathlib.Core.Path.{◌≡◌, refl}
-use mathlib.Core.Bool.{true, false, ◌&&◌}
+use mathlib.Core.Bool.{true, false}
 use Prim.Native.Nat.{ℕ, ◌≤◌, ◌<◌}
 use native.Mathlib.Omega.{arith}
-use lib.Dec.{eqb, leb}
+use lib.Dec.{eqb}
 use borrow.Author.Tests.{not-false, leb-true, le-leb, lt-leb}
 use Rattle.calls.specs.Calls.{unless_refused}
 use Rattle.acorn_model.specs.Machine.{Machine, Call, least_tag_length, tag_length_right, phase_allows, fixes_right, sizes_right, over_limit, output_short, refusal, work, call}

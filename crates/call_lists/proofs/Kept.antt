@@ -14,7 +14,7 @@ use Rattle.acorn_model.specs.declared.Phase.TheVariants.{Fresh, Data, Text, Clos
 use Rattle.acorn_model.specs.Bits.{Bits}
 use Rattle.calls.specs.Calls.{◌if◌else◌, Reply, Work}
 use Rattle.acorn_model.specs.Stretches.{through, data_piece, data_end, text_piece, text_end, final, full_tag_length, tag_bytes}
-use Rattle.acorn_model.specs.Machine.{Counts, Machine, Call, begin, data_call, seal_text, check_text, seal_close, check_close, is_sealing, is_checking, is_fresh, is_data, is_text, least_tag_length, tag_length_right, phase_allows, fixes_right, byte_limit, over_limit, run_through, enter, cleared, count_data, count_text, begun, data_taken, data_ended, text_taken, text_ended, closed, wrote, work}
+use Rattle.acorn_model.specs.Machine.{Counts, Machine, Call, begin, data_call, seal_text, check_text, seal_close, check_close, is_sealing, is_checking, is_fresh, is_data, is_text, tag_length_right, phase_allows, fixes_right, byte_limit, over_limit, run_through, enter, cleared, count_data, count_text, begun, data_taken, data_ended, text_taken, text_ended, closed, wrote, work}
 use Rattle.acorn_model.specs.Lists.{Log, nothing, join_logs}
 use Rattle.acorn_model.proofs.Pieces.{data_piece_none, data_piece-append, text_piece_none}
 use Rattle.call_lists.specs.MachineLists.{fixed_length, phase_steps, ended_steps}

@@ -1,7 +1,6 @@
 -- `acorn_kernel::from` meets its contract.
 use Prim.Native.Nat.{◌+◌, ◌-◌}
 use native.Mathlib.Omega.{arith}
-use borrow.Author.Rules.{rules}
 use Rattle.acorn_kernel.proofs.StateWords.{from_place, at0, at1, at2, at3, at4, at5, end0, end1, end2, end3, end4, end5}
 use Rattle.acorn_kernel.proofs.from.Goals as goal
 

@@ -2,7 +2,6 @@
 use mathlib.Core.Path.{◌∙◌}
 use Rattle.acorn_kernel.specs.Together.{state_of}
 use Rattle.acorn_kernel.proofs.StepWords.{ks_word}
-use borrow.Author.Rules.{rules}
 use Rattle.acorn_kernel.proofs.keystream_word.Goals as goal
 
 pub returns : goal.returns

@@ -3,7 +3,6 @@ use mathlib.Core.Path.{ap₂, ◌∙◌}
 use Rattle.acorn_model.specs.Bits.{◌⊕◌}
 use Rattle.acorn_kernel.proofs.WordBits.{bit-xor}
 use Rattle.acorn_kernel.proofs.TogetherSteps.{together_steps}
-use borrow.Author.Rules.{rules}
 use Rattle.acorn_kernel.proofs.together.Goals as goal
 
 pub returns : goal.returns

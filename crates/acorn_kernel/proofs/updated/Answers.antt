@@ -1,5 +1,4 @@
 -- `acorn_kernel::updated` meets its contract.
-use borrow.Author.Rules.{rules}
 use Rattle.acorn_kernel.proofs.WordBits.{bit-xor}
 use Rattle.acorn_kernel.proofs.StepWords.{xor_assoc}
 use Rattle.acorn_kernel.proofs.updated.Goals as goal

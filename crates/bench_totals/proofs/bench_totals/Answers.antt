@@ -1,6 +1,5 @@
 -- `bench_totals` meets its contract.
 use mathlib.Core.Path.{sym, ap, ◌∙◌}
-use borrow.Author.Rules.{rules}
 use Rattle.tape_model.specs.Tape.{totals_reply}
 use Rattle.bench_totals.specs.Net.{net_or_zero}
 use Rattle.bench_totals.proofs.bench_totals.Goals as goal

@@ -1,11 +1,6 @@
 -- `same_bytes` meets its contract. The invariant: the differences gathered, and the bytes still to come, tell what the strings do.
-use mathlib.Core.Path.{◌≡◌, refl, sym, ◌∙◌}
-use mathlib.Core.Bool.{◌&&◌}
-use Prim.Native.Nat.{◌-◌, ◌≤◌}
+use mathlib.Core.Path.{refl, sym, ◌∙◌}
 use native.Mathlib.Omega.{arith}
-use lib.Dec.{eqb}
-use lib.ListN.{length, drop}
-use Rattle.calls.specs.Calls.{same_bytes}
 use Rattle.compare.proofs.Compared.{other_length, compare_more, compare_all}
 use Rattle.compare.proofs.same_bytes.Goals as goal
 

@@ -1,9 +1,8 @@
 -- `read_at` is what document 01's reader does at the position.
 use mathlib.Core.Bool.{not}
 use Prim.Native.Nat.{◌+◌, ◌-◌, ◌*◌}
-use mathlib.Core.Path.{sym, ap, ◌∙◌}
+use mathlib.Core.Path.{ap}
 use native.Mathlib.Omega.{arith}
-use borrow.Author.Rules.{rules}
 use Rattle.tape_model.specs.Ticket.{ticket_reply}
 use Rattle.tape_model.specs.Reader.{handed_out, next_reply}
 use Rattle.reader.specs.Clauses.{read_outcome}

@@ -1,5 +1,4 @@
 -- `fbk128` meets its contract: every place is one of the 293, and the formula is that of the definition.
-use borrow.Author.Rules.{rules}
 use Rattle.single_step.proofs.Places.{fbk128-is}
 use Rattle.single_step.proofs.fbk128.Goals as goal
 

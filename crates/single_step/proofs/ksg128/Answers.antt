@@ -1,5 +1,4 @@
 -- `ksg128` meets its contract: every place is one of the 293, and the formula is that of the definition.
-use borrow.Author.Rules.{rules}
 use Rattle.single_step.proofs.Places.{ksg128-is}
 use Rattle.single_step.proofs.ksg128.Goals as goal
 

@@ -1,9 +1,8 @@
 -- `state_update128` meets its contract. The invariant: the first j places of `next` hold what stands one place up in s.
 use mathlib.Core.Path.{refl}
-use Prim.Native.Nat.{◌-◌}
 use native.Mathlib.Omega.{arith}
 use borrow.Author.Rules.{rules}
-use Rattle.single_step.proofs.Places.{Shifted, none_shifted, one_shifted, step_made}
+use Rattle.single_step.proofs.Places.{none_shifted, one_shifted, step_made}
 use Rattle.single_step.proofs.state_update128.Goals as goal
 
 pub loop-j-init : goal.loop-j-init

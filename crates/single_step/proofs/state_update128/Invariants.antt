@@ -1,8 +1,5 @@
-use mathlib.Core.Path.{refl}
 use Prim.Native.Nat.{◌-◌}
-use native.Mathlib.Omega.{arith}
-use borrow.Author.Rules.{rules}
-use Rattle.single_step.proofs.Places.{Shifted, none_shifted, one_shifted, step_made}
+use Rattle.single_step.proofs.Places.{Shifted}
 use Rattle.single_step.proofs.state_update128.Given as goal
 
 abbrev pub invariant-loop-j : goal.invariant-loop-j

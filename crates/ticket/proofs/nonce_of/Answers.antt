@@ -1,6 +1,5 @@
 -- `nonce_of` fills a head's bytes up with zeros.
 use borrow.Author.Tests.{ne_eqb}
-use borrow.Author.Rules.{rules}
 use mathlib.Core.Path.{sym, ap, ◌∙◌}
 use mathlib.Core.List.{List, ◌++◌}
 use Prim.Native.Nat.{ℕ}

@@ -1,7 +1,5 @@
 -- `pack_head` is the packing of heads into lent bytes, refusals included.
 use mathlib.Core.Path.{sym, ◌∙◌}
-use borrow.Author.Tests.{not-false}
-use borrow.Author.Rules.{rules}
 use Rattle.calls.specs.Calls.{written_reply, unless_refused, result_of}
 use Rattle.tape_model.specs.Ticket.{pack_head_into}
 use Rattle.tape_model.proofs.Tickets.{head-length}

@@ -1,7 +1,5 @@
 -- `pack_ticket` is the packing of tickets into lent bytes, refusals included.
 use mathlib.Core.Path.{sym, ◌∙◌}
-use borrow.Author.Tests.{not-false}
-use borrow.Author.Rules.{rules}
 use Rattle.calls.specs.Calls.{written_reply, unless_refused, result_of}
 use Rattle.tape_model.specs.Ticket.{pack_ticket_into}
 use Rattle.tape_model.proofs.Tickets.{ticket-length}

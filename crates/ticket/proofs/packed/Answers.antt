@@ -1,6 +1,5 @@
 -- `packed` is the packed ticket, or zeros.
 use mathlib.Core.Path.{sym, ◌∙◌}
-use borrow.Author.Rules.{rules}
 use Rattle.ticket.specs.Packing.{packed_or_zeros}
 use Rattle.ticket.proofs.packed.Goals as goal
 

@@ -3,7 +3,6 @@ use Prim.Native.Nat.{ℕ, ◌+◌, ◌*◌, ◌/◌, ◌%◌, ◌^◌}
 use mathlib.Core.Path.{◌≡◌, sym, ap, ◌∙◌}
 use mathlib.Core.List.{List, ◌++◌}
 use native.Mathlib.Omega.{arith}
-use borrow.Author.Rules.{rules}
 use Rattle.tape_model.specs.Format.{join, cut, byte_widths, widths}
 use Rattle.tape_model.specs.Ticket.{head_format, head_values, pack_head}
 use Rattle.tape_model.proofs.Widths.{cut-above, cut-append}

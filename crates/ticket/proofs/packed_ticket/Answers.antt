@@ -1,6 +1,5 @@
 -- `packed_ticket` is the packed ticket, by its two words.
 use mathlib.Core.Path.{ap, ◌∙◌}
-use borrow.Author.Rules.{rules}
 use Rattle.tape_model.specs.Format.{cut, byte_widths}
 use Rattle.tape_model.specs.Ticket.{pack_ticket}
 use Rattle.ticket.proofs.packed_ticket.Goals as goal

@@ -1,6 +1,5 @@
 -- `put` copies into an output that is long enough, and refuses any other.
 use borrow.Author.Tests.{lt-ltb}
-use borrow.Author.Rules.{rules}
 use lib.Seq.{take-length}
 use Rattle.calls.specs.Calls.{written_reply, unless_refused, result_of, put_into}
 use Rattle.ticket.proofs.Writing.{put-fits}

@@ -2,7 +2,6 @@
 use Prim.Native.Nat.{ℕ}
 use mathlib.Core.Path.{ap}
 use lib.Dec.{leb}
-use borrow.Author.Rules.{rules}
 use Rattle.ticket.specs.Rule.{tipped_in_range}
 use Rattle.ticket.proofs.tipped_in_range.Goals as goal
 

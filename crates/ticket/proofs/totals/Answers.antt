@@ -1,13 +1,12 @@
 -- `totals` are those of the plain bytes. Invariant: the totals are those of the tickets that are left, with i of them before and their sum.
-use Prim.Native.Nat.{◌+◌, ◌-◌, ◌*◌, ◌^◌, ◌≤◌}
-use mathlib.Core.Path.{◌≡◌, sym, ap, ◌∙◌}
+use Prim.Native.Nat.{◌+◌, ◌-◌, ◌*◌}
+use mathlib.Core.Path.{ap, ◌∙◌}
 use mathlib.Core.Bool.{not}
 use native.Mathlib.Omega.{arith}
-use borrow.Author.Rules.{rules}
 use Rattle.tape_model.specs.Ticket.{ticket_reply}
-use Rattle.calls.specs.Calls.{done, map_reply}
-use Rattle.tape_model.specs.Tape.{unpack_tickets, totals_of, plain_totals, totals_reply}
-use Rattle.tape_model.proofs.OneByOne.{left, all_left, none_left, one-done, one_refused, wrong_length, few_tickets, right_length}
+use Rattle.calls.specs.Calls.{done}
+use Rattle.tape_model.specs.Tape.{totals_of, plain_totals, totals_reply}
+use Rattle.tape_model.proofs.OneByOne.{all_left, none_left, one-done, one_refused, wrong_length, few_tickets, right_length}
 use Rattle.ticket.proofs.Summing.{totals_after, none_before, one_more, none_behind}
 use Rattle.ticket.proofs.totals.Goals as goal
 

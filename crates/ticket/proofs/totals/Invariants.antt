@@ -1,12 +1,9 @@
-use Prim.Native.Nat.{◌+◌, ◌-◌, ◌*◌, ◌^◌, ◌≤◌}
-use mathlib.Core.Path.{◌≡◌, sym, ap, ◌∙◌}
-use native.Mathlib.Omega.{arith}
-use borrow.Author.Rules.{rules}
-use Rattle.tape_model.specs.Ticket.{ticket_reply}
-use Rattle.calls.specs.Calls.{done, map_reply}
-use Rattle.tape_model.specs.Tape.{unpack_tickets, totals_of, plain_totals, totals_reply}
-use Rattle.tape_model.proofs.OneByOne.{left, all_left, none_left, one-done, one_refused, wrong_length, few_tickets, right_length}
-use Rattle.ticket.proofs.Summing.{totals_after, none_before, one_more, none_behind}
+use Prim.Native.Nat.{◌-◌, ◌*◌, ◌^◌, ◌≤◌}
+use mathlib.Core.Path.{◌≡◌}
+use Rattle.calls.specs.Calls.{map_reply}
+use Rattle.tape_model.specs.Tape.{unpack_tickets, totals_of}
+use Rattle.tape_model.proofs.OneByOne.{left}
+use Rattle.ticket.proofs.Summing.{totals_after}
 use Rattle.ticket.proofs.totals.Given as goal
 
 abbrev pub invariant-loop-i : goal.invariant-loop-i

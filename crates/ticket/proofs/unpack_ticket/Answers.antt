@@ -1,11 +1,9 @@
 -- `unpack_ticket` answers as the bytes unpack, refusals included.
-use mathlib.Core.Path.{◌≡◌, refl, sym, ap₂, ◌∙◌}
-use mathlib.Core.Bool.{Bool, true, false, ◌&&◌}
-use mathlib.Core.Logic.{⊎_elim}
+use mathlib.Core.Path.{refl, sym, ap₂, ◌∙◌}
+use mathlib.Core.Bool.{true, false, ◌&&◌}
 use native.Mathlib.Omega.{arith}
-use borrow.Author.Tests.{ne_eqb, not-true, not-false}
-use borrow.Author.Rules.{rules}
-use Rattle.calls.specs.Calls.{◌if◌else◌, refused, done, unless_refused}
+use borrow.Author.Tests.{ne_eqb}
+use Rattle.calls.specs.Calls.{unless_refused}
 use Rattle.tape_model.specs.Ticket.{unpack_ticket, ticket_reply}
 use Rattle.ticket.proofs.Rules.{too-late, by-rest}
 use Rattle.ticket.proofs.Reading.{seen, first_byte, form_1_answered, form_2_answered, spare_answered, other_answered}
@@ -46,12 +44,13 @@ returns-then-place_valid-load_valid c =
     let w = seen _ _ _ c.if-packed-ne-TICKET_LENGTH.false (λ p. omega (arith, c.type_inv.packed p)) c.read-h.ensures c.read-l.ensures c.read-h.type_inv in
     let rest = sym c.if-place_valid-load_valid.true ∙ ap₂ ◌&&◌ c.place_valid.ensures c.load_valid.ensures in
     elim c.if-packed-eq1.branch [
-    then-packed-eq1+else-l-ne0+else-not-tipped_in_range x ↦
-    form_1_answered _ _ _ w t true x.if-packed-eq1.true x.if-l-ne0.false (λ k a b. x.t-is ∙ x.ticket_in_form_1-t.ensures.1 k a b)
-    (by-rest t _ 1 true x.t-is x.ticket_in_form_1-t.ensures.0 refl (sym x.tipped_in_range.ensures ∙ x.if-not-tipped_in_range.false) rest)
-    | else-packed-eq1+else-h-ne2+else-not-tipped_in_range-2 x ↦
-    form_2_answered _ _ _ w t true x.if-h-ne2.false (λ k a b. x.t-is ∙ x.ticket_in_form_2-t.ensures.1 k a b)
-    (by-rest t _ 2 true x.t-is x.ticket_in_form_2-t.ensures.0 refl (sym x.tipped_in_range-else-packed-eq1.ensures ∙ x.if-not-tipped_in_range-2.false) rest) ]
+      | then-packed-eq1+else-l-ne0+else-not-tipped_in_range x ↦
+          form_1_answered _ _ _ w t true x.if-packed-eq1.true x.if-l-ne0.false (λ k a b. x.t-is ∙ x.ticket_in_form_1-t.ensures.1 k a b)
+          (by-rest t _ 1 true x.t-is x.ticket_in_form_1-t.ensures.0 refl (sym x.tipped_in_range.ensures ∙ x.if-not-tipped_in_range.false) rest)
+      | else-packed-eq1+else-h-ne2+else-not-tipped_in_range-2 x ↦
+          form_2_answered _ _ _ w t true x.if-h-ne2.false (λ k a b. x.t-is ∙ x.ticket_in_form_2-t.ensures.1 k a b)
+          (by-rest t _ 2 true x.t-is x.ticket_in_form_2-t.ensures.0 refl (sym x.tipped_in_range-else-packed-eq1.ensures ∙ x.if-not-tipped_in_range-2.false) rest)
+    ]
 
 pub returns-else-place_valid-load_valid : goal.returns-else-place_valid-load_valid
 unfolding ticket_reply
@@ -60,9 +59,10 @@ returns-else-place_valid-load_valid c =
     let w = seen _ _ _ c.if-packed-ne-TICKET_LENGTH.false (λ p. omega (arith, c.type_inv.packed p)) c.read-h.ensures c.read-l.ensures c.read-h.type_inv in
     let rest = sym c.if-place_valid-load_valid.false ∙ ap₂ ◌&&◌ c.place_valid.ensures c.load_valid.ensures in
     elim c.if-packed-eq1.branch [
-    then-packed-eq1+else-l-ne0+else-not-tipped_in_range x ↦
-    form_1_answered _ _ _ w t false x.if-packed-eq1.true x.if-l-ne0.false (λ k a b. x.t-is ∙ x.ticket_in_form_1-t.ensures.1 k a b)
-    (by-rest t _ 1 false x.t-is x.ticket_in_form_1-t.ensures.0 refl (sym x.tipped_in_range.ensures ∙ x.if-not-tipped_in_range.false) rest)
-    | else-packed-eq1+else-h-ne2+else-not-tipped_in_range-2 x ↦
-    form_2_answered _ _ _ w t false x.if-h-ne2.false (λ k a b. x.t-is ∙ x.ticket_in_form_2-t.ensures.1 k a b)
-    (by-rest t _ 2 false x.t-is x.ticket_in_form_2-t.ensures.0 refl (sym x.tipped_in_range-else-packed-eq1.ensures ∙ x.if-not-tipped_in_range-2.false) rest) ]
+      | then-packed-eq1+else-l-ne0+else-not-tipped_in_range x ↦
+          form_1_answered _ _ _ w t false x.if-packed-eq1.true x.if-l-ne0.false (λ k a b. x.t-is ∙ x.ticket_in_form_1-t.ensures.1 k a b)
+          (by-rest t _ 1 false x.t-is x.ticket_in_form_1-t.ensures.0 refl (sym x.tipped_in_range.ensures ∙ x.if-not-tipped_in_range.false) rest)
+      | else-packed-eq1+else-h-ne2+else-not-tipped_in_range-2 x ↦
+          form_2_answered _ _ _ w t false x.if-h-ne2.false (λ k a b. x.t-is ∙ x.ticket_in_form_2-t.ensures.1 k a b)
+          (by-rest t _ 2 false x.t-is x.ticket_in_form_2-t.ensures.0 refl (sym x.tipped_in_range-else-packed-eq1.ensures ∙ x.if-not-tipped_in_range-2.false) rest)
+    ]

@@ -1,7 +1,6 @@
 -- `valid` is the ticket rule, by its parts.
 use mathlib.Core.Path.{ap₂, ◌∙◌}
 use mathlib.Core.Bool.{Bool, ◌&&◌}
-use borrow.Author.Rules.{rules}
 use Rattle.ticket.specs.Rule.{between}
 use Rattle.ticket.proofs.Rules.{in_parts}
 use Rattle.ticket.proofs.valid.Goals as goal

@@ -1,6 +1,5 @@
 -- `words_of`: for a ticket that meets the rule nothing overflows, and the two words are the number of its values, by its form's widths.
 use native.Mathlib.Omega.{arith}
-use borrow.Author.Rules.{rules}
 use borrow.Author.Tests.{eq-eqb, ne_eqb}
 use Rattle.tape_model.proofs.Tickets.{form_1_rule, form_2_rule}
 use Rattle.ticket.proofs.words_of.Goals as goal

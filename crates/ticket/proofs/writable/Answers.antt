@@ -1,5 +1,4 @@
 -- `writable` is the rule for a ticket that is to be written.
-use borrow.Author.Rules.{rules}
 use Rattle.ticket.proofs.writable.Goals as goal
 
 pub returns : goal.returns

@@ -3,7 +3,6 @@ use Prim.Native.Nat.{ℕ}
 use mathlib.Core.Path.{ap}
 use mathlib.Core.List.{List, reverse}
 use native.Mathlib.Omega.{arith}
-use borrow.Author.Rules.{rules}
 use Rattle.tape_model.specs.Format.{join, byte_widths}
 use Rattle.ticket.proofs.WordBytes.{eight}
 use Rattle.ticket.proofs.word.low_first.Goals as goal

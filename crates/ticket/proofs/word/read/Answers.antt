@@ -3,7 +3,6 @@ use Prim.Native.Nat.{ℕ}
 use mathlib.Core.Path.{ap, ◌∙◌}
 use mathlib.Core.List.{reverse}
 use native.Mathlib.Omega.{arith}
-use borrow.Author.Rules.{rules}
 use Rattle.tape_model.specs.Format.{join, cut, byte_widths}
 use Rattle.ticket.proofs.WordBytes.{turned-back}
 use Rattle.ticket.proofs.word.read.Goals as goal
