@@ -18,7 +18,7 @@ use phase_runs::{ciphertext_taken, data_end_steps, data_ended, text_ended};
 use refusal::{is_checking, is_data, is_fresh, is_sealing, is_text, over_limit, takes_text};
 use std::num::wrapping_add_u64;
 
-#[derive(Drop)]
+#[derive(Clone, Copy)]
 pub struct Session {
     state: State,
     data_bytes: u64,
@@ -30,7 +30,7 @@ pub struct Session {
 }
 
 // What a call answered, and the session after it.
-#[derive(Drop)]
+#[derive(Clone, Copy)]
 pub struct Reply {
     pub answer: Answer,
     pub session: Session,

@@ -1,11 +1,9 @@
 -- Packed tickets and heads, as the writer has them from `ticket`.
-use mathlib.Core.Path.{◌≡◌, ap, ◌∙◌}
+use mathlib.Core.Path.{◌≡◌, sym, ap₂}
 use mathlib.Core.Bool.{true}
 use mathlib.Core.List.{List, ◌++◌}
 use Prim.Native.Nat.{ℕ}
-use native.Mathlib.Omega.{arith}
-use lib.ListN.{length, take, drop}
-use lib.Seq.{take_all}
+use lib.ListN.{length, drop}
 use Rattle.calls.specs.Calls.{written_over}
 use Rattle.tape_model.specs.declared.Ticket.{Ticket}
 use Rattle.tape_model.specs.Ticket.{ticket_rule, pack_ticket}
@@ -20,6 +18,6 @@ ticket_packed t string e met = rw met at e
 -- ## Heads
 
 -- a string copied over an output is written over it
-pub copied : (string packed out after : List ℕ) → string ≡ packed → after ≡ take (length string) string ++ drop (length string) out → after ≡ written_over packed out
+pub copied : (packed copy out : List ℕ) (n : ℕ) → length packed ≡ n → copy ≡ packed → copy ++ drop n out ≡ written_over packed out
 unfolding written_over
-copied string packed out after e f = f ∙ ap (λ (l : List ℕ). l ++ drop (length string) out) (take_all (length string) string (omega arith)) ∙ ap (λ (l : List ℕ). written_over l out) e
+copied packed copy out n long same = ap₂ (λ (l : List ℕ) (k : ℕ). l ++ drop k out) same (sym long)

@@ -4,7 +4,7 @@ use Rattle.tape_model.specs.declared.WriterPhase.{WriterPhase}
 use Rattle.tape_model.specs.declared.WriterPhase.TheVariants.{Fresh, Open, Closed}
 use Rattle.tape_model.specs.Writer.{PlainWriter}
 use Rattle.session.specs.Clauses.{length_of, machine_of}
-use Rattle.acorn_model.specs.Machine.{Machine, with_tag_length}
+use Rattle.acorn_model.specs.Machine.{with_tag_length}
 use Rattle.tape_model.specs.Tape.{tape_tag_length}
 use Rattle.session.specs.Words.{first_ten, words_of, words_for, session_for, session_in, machine_in}
 use Rattle.session.proofs.WordsBack.{Clear, words_stand}

@@ -22,7 +22,7 @@ use tape_model::{
 };
 use ticket::nonce_of;
 
-#[derive(Drop)]
+#[derive(Clone, Copy)]
 pub struct Writer {
     session: Session,
     tickets: u64,
@@ -30,7 +30,7 @@ pub struct Writer {
 }
 
 // What a call answered, and the writer after it.
-#[derive(Drop)]
+#[derive(Clone, Copy)]
 pub struct WriterReply {
     pub answer: Answer,
     pub writer: Writer,
@@ -99,7 +99,7 @@ impl Writer {
                 writer: self,
             };
         };
-        bytes::copy(&packed, out);
+        out[..HEAD_LENGTH].copy_from_slice(&packed);
         let after = reply.session;
         WriterReply {
             answer: Answer::Done(HEAD_LENGTH, steps),
