@@ -93,7 +93,7 @@ module _ (fit : ℕ → ℕ → Bool) where
   pub one_more : {p q n : ℕ} {ps ps' l l' : List ℕ} → Taken p ps ps' → fit p q ≡ true → Taken q l l' → CanPair ps' l' n → CanPair ps l (suc n)
   one_more here f t c = pair f t c
   one_more (there t') f t (skip c) = skip (one_more t' f t c)
-  one_more (there t') f t (pair f' t'' c) = let o = other_order t t'' in pair f' o.before (one_more t' f o.after c)
+  one_more (there t') f t (pair {n = n} f' t'' c) = let o = other_order t t'' in pair f' o.before (one_more {n = n} t' f o.after c)
 
 -- ## What `first_that_fits` gives
 

@@ -1,0 +1,15 @@
+use mathlib.Core.Path.{◌≡◌}
+use Prim.Native.Nat.{◌+◌, ◌-◌, ◌≤◌}
+use lib.Dec.{ltb}
+use lib.ListN.{length, take}
+use Rattle.trucks.specs.Words.{one}
+use Rattle.pay_sheet.specs.PaySheet.{each, rank}
+use Rattle.pay_sheet.specs.Clauses.{at}
+use Rattle.pay_sheet.proofs.with_cents_left.Given as goal
+
+abbrev pub invariant-loop-c : goal.invariant-loop-c
+invariant-loop-c l =
+    ((l.c ≤ 16) × (length l.out ≡ 16)) × (take l.c l.out ≡ each l.c (λ d. at l.whole d + one (ltb (rank (at l.rests) d) l.left)))
+
+abbrev pub decreases-loop-c : goal.decreases-loop-c
+decreases-loop-c l = 16 - l.c
