@@ -5,8 +5,8 @@ ghost use Rattle.std.specs.Prelude.{◌≡◌, length};
 
 use acorn_model::Kind;
 use calls::Answer;
-use libc::STDOUT_FILENO;
 use session::Session;
+use std::io;
 
 fn steps_of(answer: Answer) -> u64 {
     match answer {
@@ -58,7 +58,7 @@ fn size(b: u8) -> usize {
     b as usize
 }
 
-fn main() {
+fn main(rt: HostRuntime) -> io::Result<()> {
     let mut text = buffer();
     fill(&mut text);
     // 13, which the compiler does not know
@@ -71,8 +71,5 @@ fn main() {
         steps = sealed(&mut nonce, &text, each, &mut out);
         round += 1;
     }
-    io::print_decimal(STDOUT_FILENO, steps);
-    io::write_all(STDOUT_FILENO, b" ");
-    io::print_decimal(STDOUT_FILENO, wide(nonce[0]));
-    io::write_all(STDOUT_FILENO, b"\n");
+    println!(rt; "{steps} {}", wide(nonce[0]))
 }
