@@ -23,10 +23,8 @@ fn buffer() -> [u8; 65000]
 
 // Bytes that are not all alike.
 fn fill(text: &mut [u8]) {
-    let mut i: usize = 0;
-    while i < text.len() {
+    for i in 0..text.len() {
         text[i] = (i % 251) as u8;
-        i += 1;
     }
 }
 
@@ -66,10 +64,8 @@ fn main(rt: HostRuntime) -> io::Result<()> {
     let mut out = buffer();
     let mut nonce = [0; 16];
     let mut steps: u64 = 0;
-    let mut round: u16 = 0;
-    while round < 400 {
+    for _ in 0..400 {
         steps = sealed(&mut nonce, &text, each, &mut out);
-        round += 1;
     }
     println!(rt; "{steps} {}", wide(nonce[0]))
 }
