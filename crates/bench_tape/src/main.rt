@@ -71,10 +71,8 @@ fn main(rt: HostRuntime) -> io::Result<()> {
     let mut out = buffer();
     let mut key = [0; 16];
     let mut steps: u64 = 0;
-    let mut round: u16 = 0;
-    while round < 400 {
+    for _ in 0..400 {
         steps = written(&mut key, &mut out);
-        round += 1;
     }
     println!(rt; "{steps} {}", wide(key[0]))
 }
