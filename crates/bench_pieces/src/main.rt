@@ -5,8 +5,8 @@ ghost use Rattle.std.specs.Prelude.{◌≡◌, length};
 
 use acorn_model::Kind;
 use calls::Answer;
-use libc::STDOUT_FILENO;
 use session::Session;
+use std::io;
 
 fn steps_of(answer: Answer) -> u64 {
     match answer {
@@ -23,10 +23,8 @@ fn buffer() -> [u8; 65000]
 
 // Bytes that are not all alike.
 fn fill(text: &mut [u8]) {
-    let mut i: usize = 0;
-    while i < text.len() {
+    for i in 0..text.len() {
         text[i] = (i % 251) as u8;
-        i += 1;
     }
 }
 
@@ -58,7 +56,7 @@ fn size(b: u8) -> usize {
     b as usize
 }
 
-fn main() {
+fn main(rt: HostRuntime) -> io::Result<()> {
     let mut text = buffer();
     fill(&mut text);
     // 13, which the compiler does not know
@@ -66,13 +64,8 @@ fn main() {
     let mut out = buffer();
     let mut nonce = [0; 16];
     let mut steps: u64 = 0;
-    let mut round: u16 = 0;
-    while round < 400 {
+    for _ in 0..400 {
         steps = sealed(&mut nonce, &text, each, &mut out);
-        round += 1;
     }
-    io::print_decimal(STDOUT_FILENO, steps);
-    io::write_all(STDOUT_FILENO, b" ");
-    io::print_decimal(STDOUT_FILENO, wide(nonce[0]));
-    io::write_all(STDOUT_FILENO, b"\n");
+    println!(rt; "{steps} {}", wide(nonce[0]))
 }

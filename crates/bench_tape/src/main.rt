@@ -4,7 +4,7 @@
 ghost use Rattle.std.specs.Prelude.{◌≡◌, length};
 
 use calls::Answer;
-use libc::STDOUT_FILENO;
+use std::io;
 use tape_model::{Head, Ticket};
 use tape_writer::Writer;
 
@@ -67,17 +67,12 @@ fn wide(b: u8) -> u64 {
     b as u64
 }
 
-fn main() {
+fn main(rt: HostRuntime) -> io::Result<()> {
     let mut out = buffer();
     let mut key = [0; 16];
     let mut steps: u64 = 0;
-    let mut round: u16 = 0;
-    while round < 400 {
+    for _ in 0..400 {
         steps = written(&mut key, &mut out);
-        round += 1;
     }
-    io::print_decimal(STDOUT_FILENO, steps);
-    io::write_all(STDOUT_FILENO, b" ");
-    io::print_decimal(STDOUT_FILENO, wide(key[0]));
-    io::write_all(STDOUT_FILENO, b"\n");
+    println!(rt; "{steps} {}", wide(key[0]))
 }

@@ -2,13 +2,14 @@
 #![tactic(auto)]
 
 ghost use Rattle.std.specs.Prelude.{◌≡◌, length, ◌+◌};
-ghost use Rattle.io.specs.Counts.{IsPrefixLen};
+ghost use Rattle.input.specs.Counts.{IsPrefixLen};
 ghost use Rattle.tape_model.specs.Listing.{printed};
 ghost use Rattle.listing.specs.Clauses.{Wrote, text_room};
 ghost use Rattle.listing.specs.Laws.{longest_input};
 
 use calls::Written;
-use libc::{STDIN_FILENO, STDOUT_FILENO};
+use std::io;
+use std::io::Write;
 
 // One byte more than a key and the longest tape: enough to see that an input is too long.
 fn input_buffer() -> [u8; 65042]
@@ -30,10 +31,10 @@ fn listed(input: &[u8], text: &mut [u8]) -> usize
     }
 }
 
-fn main() {
+fn main(rt: HostRuntime) -> io::Result<()> {
     let mut input = input_buffer();
-    let n = io::read_full(STDIN_FILENO, &mut input);
+    let n = input::read_full(&mut rt.stdin(), &mut input)?;
     let mut text = listing::text_buffer();
     let k = listed(&input[..n], &mut text);
-    io::write_all(STDOUT_FILENO, &text[..k]);
+    rt.stdout().write_all(&text[..k])
 }

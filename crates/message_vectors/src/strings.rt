@@ -1,29 +1,27 @@
 // Strings to run the cases on, and printing.
 
+use std::io;
+
 // Byte i of the strings that fill makes; those of two masks differ at every place.
 fn byte_at(i: usize, mask: u8) -> u8 {
     ((i % 251) as u8) ^ mask
 }
 
 pub(crate) fn fill(s: &mut [u8], mask: u8) {
-    let mut i: usize = 0;
-    while i < s.len() {
+    for i in 0..s.len() {
         s[i] = byte_at(i, mask);
-        i += 1;
     }
 }
 
 // Whether s has what fill puts there, at the places from first up to, not including, end.
 pub(crate) fn holds(s: &[u8], first: usize, end: usize, mask: u8) -> bool {
-    let mut i = first;
-    while i < end {
+    for i in first..end {
         if s.len() <= i {
             return false;
         }
         if s[i] != byte_at(i, mask) {
             return false;
         }
-        i += 1;
     }
     true
 }
@@ -45,22 +43,20 @@ pub(crate) fn rest(s: &[u8], n: usize) -> &[u8] {
 }
 
 pub(crate) fn starts_with(s: &[u8], start: &[u8]) -> bool {
-    check::same(first(s, start.len()), start)
+    first(s, start.len()) == start
 }
 
-pub(crate) fn print_number(n: u64) {
-    io::write_all(1, b" ");
-    io::print_decimal(1, n);
+pub(crate) fn print_number(rt: &impl Print, n: u64) -> io::Result<()> {
+    print!(rt; " {n}")
 }
 
-fn print_byte(b: u8) {
-    io::print_hex(1, b as u64, 2);
+fn print_byte(rt: &impl Print, b: u8) -> io::Result<()> {
+    print!(rt; "{b:02x}")
 }
 
-pub(crate) fn print_bytes(s: &[u8]) {
-    let mut i: usize = 0;
-    while i < s.len() {
-        print_byte(s[i]);
-        i += 1;
+pub(crate) fn print_bytes(rt: &impl Print, s: &[u8]) -> io::Result<()> {
+    for b in s {
+        print_byte(rt, *b)?;
     }
+    Ok(())
 }

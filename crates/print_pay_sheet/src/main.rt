@@ -2,7 +2,7 @@
 #![tactic(auto)]
 
 ghost use Rattle.std.specs.Prelude.{◌≡◌, ◌++◌, ◌+◌, ◌≤◌, ◌<◌, eqb, length, get_or, take, drop};
-ghost use Rattle.io.specs.Counts.{IsPrefixLen};
+ghost use Rattle.input.specs.Counts.{IsPrefixLen};
 ghost use Rattle.acorn_model.specs.Machine.{key_length};
 ghost use Rattle.tape_model.specs.Listing as model;
 ghost use Rattle.tape_model.specs.Laws.{value_after};
@@ -15,8 +15,9 @@ ghost use Rattle.print_pay_sheet.specs.Laws.{text_room, longest_input};
 
 use acorn_model::KEY_LENGTH;
 use calls::Written;
-use libc::{STDIN_FILENO, STDOUT_FILENO};
 use pay_sheet::{CONTRACTORS, HIGHEST_RATE, PaySheet, TapePay};
+use std::io;
+use std::io::Write;
 use tape_model::{OpenedTape, TICKET_LENGTH, TICKET_LIMIT};
 use tape_opening::open_scratch;
 
@@ -231,10 +232,10 @@ fn print_sheet(input: &[u8], text: &mut [u8]) -> usize
     put_sheet_of(rate, &input[start..], text)
 }
 
-fn main() {
+fn main(rt: HostRuntime) -> io::Result<()> {
     let mut input = input_buffer();
-    let n = io::read_full(STDIN_FILENO, &mut input);
+    let n = input::read_full(&mut rt.stdin(), &mut input)?;
     let mut text = text_buffer();
     let k = print_sheet(&input[..n], &mut text);
-    io::write_all(STDOUT_FILENO, &text[..k]);
+    rt.stdout().write_all(&text[..k])
 }

@@ -6,66 +6,65 @@ ghost use Rattle.tape_model.specs.Reader.{read_next, reader_over, next_reply};
 
 use calls::Answer;
 use reader::Reader;
+use std::io;
 use tape_model::{Head, NextTicket, OpenedTape, Ticket};
 use tape_opening::open_tape;
 use tape_writer::{Writer, WriterReply};
 
 // Whether a call was refused; then its number is printed.
-fn refused(reply: WriterReply) -> bool {
+fn refused(rt: &impl Print, reply: WriterReply) -> io::Result<bool> {
     let answer = reply.answer;
     match answer {
         Answer::Refused(number) => {
-            print_refused(number);
-            true
+            print_refused(rt, number)?;
+            Ok(true)
         }
-        Answer::Done(_, _) => false,
+        Answer::Done(_, _) => Ok(false),
     }
 }
 
-fn print_refused(number: u8) {
-    io::write_all(1, b"refused ");
-    io::print_decimal(1, number as u64);
-    io::write_all(1, b"\n");
+fn print_refused(rt: &impl Print, number: u8) -> io::Result<()> {
+    println!(rt; "refused {number}")
 }
 
-fn print_byte(b: u8) {
-    io::print_hex(1, b as u64, 2);
+fn print_byte(rt: &impl Print, b: u8) -> io::Result<()> {
+    print!(rt; "{b:02x}")
 }
 
-fn print_tape(tape: &[u8]) {
-    io::write_all(1, b"tape ");
+fn print_tape(rt: &impl Print, tape: &[u8]) -> io::Result<()> {
+    print!(rt; "tape ")?;
     for i in 0..tape.len() {
-        print_byte(tape[i]);
+        print_byte(rt, tape[i])?;
     }
-    io::write_all(1, b"\n");
+    println!(rt)
 }
 
-fn print_ticket(number: u64, t: Ticket) {
-    io::write_all(1, b"ticket ");
-    io::print_decimal(1, number);
-    io::write_all(1, b": truck ");
-    io::print_decimal(1, t.truck as u64);
-    io::write_all(1, b", net ");
-    io::print_decimal(1, ticket::net(t) as u64);
-    io::write_all(1, b" kg\n");
+fn print_ticket(rt: &impl Print, number: u64, t: Ticket) -> io::Result<()> {
+    println!(rt;
+        "ticket {number}: truck {}, net {} kg",
+        t.truck,
+        ticket::net(t)
+    )
 }
 
-fn print_totals(tickets: usize, net: u64) {
-    io::write_all(1, b"tickets ");
-    io::print_decimal(1, tickets as u64);
-    io::write_all(1, b", net ");
-    io::print_decimal(1, net);
-    io::write_all(1, b" kg\n");
+fn print_totals(rt: &impl Print, tickets: usize, net: u64) -> io::Result<()> {
+    println!(rt; "tickets {tickets}, net {net} kg")
 }
 
 // Writes the tape of one ticket: 9 bytes of head, 13 of the ticket, 16 of tag. Says whether that was done.
-fn write_tape(key: &[u8], head: Head, ticket: Ticket, tape: &mut [u8]) -> bool
+fn write_tape(
+    rt: &impl Print,
+    key: &[u8],
+    head: Head,
+    ticket: Ticket,
+    tape: &mut [u8],
+) -> io::Result<bool>
     requires { length tape.old ≡ 38 }
 {
     let started = Writer::fresh().start(key, head, tape);
     let added = started.writer.add(ticket, &mut tape[9..]);
     let finished = added.writer.finish(&mut tape[22..]);
-    !(refused(started) || refused(added) || refused(finished))
+    Ok(!(refused(rt, started)? || refused(rt, added)? || refused(rt, finished)?))
 }
 
 // What a reader hands out first and then.
@@ -88,30 +87,30 @@ fn read_two(plain: &[u8]) -> Readings
     }
 }
 
-fn print_reading(number: u64, reading: NextTicket) {
+fn print_reading(rt: &impl Print, number: u64, reading: NextTicket) -> io::Result<()> {
     match reading {
-        NextTicket::Refused(refusal) => print_refused(refusal),
-        NextTicket::Done(ticket) => print_ticket(number, ticket),
-        NextTicket::End => (),
+        NextTicket::Refused(refusal) => print_refused(rt, refusal),
+        NextTicket::Done(ticket) => print_ticket(rt, number, ticket),
+        NextTicket::End => Ok(()),
     }
 }
 
 // Opens a tape into plain, and prints its tickets, of at most two, and the totals.
-fn read_tape(key: &[u8], tape: &[u8], plain: &mut [u8]) {
+fn read_tape(rt: &impl Print, key: &[u8], tape: &[u8], plain: &mut [u8]) -> io::Result<()> {
     match open_tape(key, tape, plain) {
-        OpenedTape::Refused(number) => print_refused(number),
+        OpenedTape::Refused(number) => print_refused(rt, number),
         OpenedTape::Done(tickets, net) => {
             let readings = read_two(&plain[..13 * tickets]);
             let first = readings.first;
             let second = readings.second;
-            print_reading(1, first);
-            print_reading(2, second);
-            print_totals(tickets, net);
+            print_reading(rt, 1, first)?;
+            print_reading(rt, 2, second)?;
+            print_totals(rt, tickets, net)
         }
     }
 }
 
-fn main() {
+fn main(rt: HostRuntime) -> io::Result<()> {
     let key = b"\x00\x01\x02\x03\x04\x05\x06\x07\x08\x09\x0a\x0b\x0c\x0d\x0e\x0f";
     let head = Head {
         device: 7,
@@ -131,8 +130,9 @@ fn main() {
     };
     let mut tape = [0; 38];
     let mut plain = [0; 13];
-    if write_tape(key, head, ticket, &mut tape) {
-        print_tape(&tape);
-        read_tape(key, &tape, &mut plain);
+    if write_tape(&rt, key, head, ticket, &mut tape)? {
+        print_tape(&rt, &tape)?;
+        read_tape(&rt, key, &tape, &mut plain)?;
     }
+    Ok(())
 }
