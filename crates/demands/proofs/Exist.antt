@@ -1,5 +1,4 @@
 -- Every list of calls can be made, on sessions and on writers: the contracts leave no call without a reply.
-use mathlib.Core.Path.{refl}
 use mathlib.Core.Bool.{Bool, true, false}
 use Rattle.calls.specs.Calls.{◌if◌else◌, Work, left_unchanged, Outcome, answer_reply, is_refused}
 use Rattle.acorn_model.specs.declared.Kind.TheVariants.{Sealing}

@@ -2,7 +2,7 @@
 use mathlib.Core.Path.{◌≡◌, refl, sym, ap, ap₂, ◌∙◌, subst}
 use mathlib.Core.Bool.{true}
 use mathlib.Core.List.{List}
-use mathlib.Core.Logic.{◌↔◌, ◌⊎◌, inl, inr, ⊎_elim}
+use mathlib.Core.Logic.{◌⊎◌, inl, inr}
 use Prim.Native.Nat.{ℕ, ◌*◌, ◌≤◌, ◌<◌}
 use native.Mathlib.Omega.{arith}
 use lib.ListN.{length, take}
@@ -17,7 +17,7 @@ use Rattle.tape_model.specs.Laws.{Valid}
 use Rattle.tape_model.proofs.Tapes.{tapes_come_back}
 use Rattle.receptions.specs.Receptions.{Mast, first_mast, second_mast, of_mast, Part, PartingReply, refused_at, not_parted, parting, longer, longer_bytes}
 use Rattle.receptions.specs.Clauses.{IsPart}
-use Rattle.receptions.specs.Laws.{FirstDifferenceAt, Begins, PlaceLaws, LongerLaws}
+use Rattle.receptions.specs.Laws.{Begins, PlaceLaws, LongerLaws}
 use Rattle.receptions.specs.Opening.{HeardWhole}
 use Rattle.receptions.proofs.Proved.{reception_laws, joined_to_opening}
 use Rattle.c_answers.specs.declared.HtParted.{HtParted}

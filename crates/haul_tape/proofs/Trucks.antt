@@ -5,7 +5,7 @@ use mathlib.Core.Logic.{◌↔◌}
 use Prim.Native.Nat.{ℕ, ◌+◌, ◌≤◌}
 use native.Mathlib.Omega.{arith}
 use lib.Dec.{leb}
-use Rattle.calls.specs.Calls.{◌if◌else◌, Reply, refused, done, map_reply, map_replies}
+use Rattle.calls.specs.Calls.{Reply, refused, done, map_reply, map_replies}
 use Rattle.tape_model.specs.declared.Ticket.{Ticket}
 use Rattle.tape_model.specs.Tape.{plain_tickets, of_plain, of_two_plain}
 use Rattle.tape_model.proofs.Plain.{two_or_more}

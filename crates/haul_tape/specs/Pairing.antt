@@ -1,6 +1,6 @@
 -- What a C caller knows from the answer on two tapes in pairs: statements, to be read without their proofs.
 use Rattle.std.specs.Prelude.{◌≡◌, true, false, ◌&&◌, ◌||◌, List, ◌↔◌, ◌⊎◌, ℕ, ◌+◌, ◌≤◌, length}
-use Rattle.calls.specs.Calls.{is_refused, refused, done}
+use Rattle.calls.specs.Calls.{is_refused, done}
 use Rattle.tape_model.specs.declared.Ticket.{Ticket}
 use Rattle.tape_model.specs.Tape.{is_tickets_length, plain_tickets}
 use Rattle.pairing.specs.Pairing.{Pair, KeepsRules, paired, times_fall, Outputs, too_short, put}

@@ -1,5 +1,4 @@
 -- `ht_longer` meets its contract.
-use borrow.Author.Rules.{rules}
 use Rattle.haul_tape.proofs.Receptions.{second-told, first-told}
 use Rattle.haul_tape.proofs.ht_longer.Goals as goal
 

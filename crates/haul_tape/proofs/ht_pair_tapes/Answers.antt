@@ -1,6 +1,5 @@
 -- `ht_pair_tapes` meets its contract.
 use mathlib.Core.Path.{ap, ◌∙◌}
-use borrow.Author.Rules.{rules}
 use Rattle.pairing.specs.Pairing.{PairingResult}
 use Rattle.c_answers.specs.Answers.{paired_numbers}
 use Rattle.haul_tape.proofs.ht_pair_tapes.Goals as goal

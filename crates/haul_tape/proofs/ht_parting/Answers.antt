@@ -1,6 +1,5 @@
 -- `ht_parting` meets its contract.
 use mathlib.Core.Path.{ap, ◌∙◌}
-use borrow.Author.Rules.{rules}
 use Rattle.c_answers.specs.Answers.{parted_numbers}
 use Rattle.haul_tape.proofs.ht_parting.Goals as goal
 

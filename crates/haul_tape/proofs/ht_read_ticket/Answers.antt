@@ -1,6 +1,5 @@
 -- `ht_read_ticket` meets its contract.
 use mathlib.Core.Path.{ap, ◌∙◌}
-use borrow.Author.Rules.{rules}
 use Rattle.tape_model.specs.Reader.{read_next}
 use Rattle.reader.specs.Clauses.{reader_at, read_outcome}
 use Rattle.haul_tape.specs.Clauses.{read_numbers}

@@ -1,5 +1,4 @@
 -- `ht_session_data` meets its contract.
-use borrow.Author.Rules.{rules}
 use Rattle.haul_tape.proofs.Seeing.{session_seen}
 use Rattle.haul_tape.proofs.ht_session_data.Goals as goal
 

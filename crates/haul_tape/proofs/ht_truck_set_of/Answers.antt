@@ -1,6 +1,5 @@
 -- `ht_truck_set_of` meets its contract.
 use mathlib.Core.Path.{sym, ap, ◌∙◌}
-use borrow.Author.Rules.{rules}
 use Rattle.c_answers.specs.Answers.{count_numbers}
 use Rattle.haul_tape.proofs.Seeing.{set-stays, set-written}
 use Rattle.haul_tape.proofs.ht_truck_set_of.Goals as goal

@@ -1,6 +1,5 @@
 -- `ht_trucks` meets its contract.
 use mathlib.Core.Path.{ap, ◌∙◌}
-use borrow.Author.Rules.{rules}
 use Rattle.c_answers.specs.Answers.{count_numbers}
 use Rattle.haul_tape.proofs.ht_trucks.Goals as goal
 

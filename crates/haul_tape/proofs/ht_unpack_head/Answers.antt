@@ -1,6 +1,5 @@
 -- `ht_unpack_head` meets its contract.
 use mathlib.Core.Path.{ap, ◌∙◌}
-use borrow.Author.Rules.{rules}
 use Rattle.c_answers.specs.Answers.{head_numbers}
 use Rattle.haul_tape.proofs.ht_unpack_head.Goals as goal
 

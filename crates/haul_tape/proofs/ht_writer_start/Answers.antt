@@ -1,5 +1,4 @@
 -- `ht_writer_start` meets its contract.
-use borrow.Author.Rules.{rules}
 use Rattle.haul_tape.proofs.Seeing.{writer_seen}
 use Rattle.haul_tape.proofs.ht_writer_start.Goals as goal
 

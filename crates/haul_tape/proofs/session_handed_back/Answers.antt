@@ -1,6 +1,5 @@
 -- `session_handed_back` meets its contract.
 use mathlib.Core.Path.{sym, ◌∙◌}
-use borrow.Author.Rules.{rules}
 use Rattle.session.specs.Clauses.{session_outcome}
 use Rattle.haul_tape.specs.Clauses.{words_after}
 use Rattle.haul_tape.proofs.session_handed_back.Goals as goal

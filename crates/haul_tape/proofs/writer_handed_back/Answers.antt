@@ -1,6 +1,5 @@
 -- `writer_handed_back` meets its contract.
 use mathlib.Core.Path.{sym, ◌∙◌}
-use borrow.Author.Rules.{rules}
 use Rattle.tape_writer.specs.Clauses.{writer_outcome}
 use Rattle.haul_tape.specs.Clauses.{words_after}
 use Rattle.haul_tape.proofs.writer_handed_back.Goals as goal
