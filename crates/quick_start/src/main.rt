@@ -68,7 +68,7 @@ fn write_tape(
 }
 
 // What a reader hands out first and then.
-#[derive(Drop)]
+#[derive(Clone, Copy)]
 struct Readings {
     first: NextTicket,
     second: NextTicket,

@@ -10,7 +10,7 @@ use tape_model::{NextTicket, TICKET_LENGTH, UnpackedTicket};
 use ticket::is_tickets_length;
 
 // What stands at a position, and the position after it. A position is the number of tickets before it: 0 before the first.
-#[derive(Drop)]
+#[derive(Clone, Copy)]
 pub struct ReadAt {
     pub position: usize,
     pub answer: NextTicket,
@@ -49,14 +49,14 @@ pub fn read_at(bytes: &[u8], position: usize) -> ReadAt
 }
 
 // Opened bytes, and how many of their tickets were handed out.
-#[derive(Drop)]
+#[derive(Clone, Copy)]
 pub struct Reader<'a> {
     bytes: &'a [u8],
     position: usize,
 }
 
 // What a call answered, and the reader after it.
-#[derive(Drop)]
+#[derive(Clone, Copy)]
 pub struct ReaderReply<'a> {
     pub reader: Reader<'a>,
     pub answer: NextTicket,

@@ -35,7 +35,7 @@ pub fn fbk128(s: &[bool; 293], ca: bool, cb: bool, ks: bool) -> bool
 }
 
 // What a step gives: S_{i+1}, as in the paper, and ks_i, which the ciphertext and the tag are made of.
-#[derive(Drop)]
+#[derive(Clone, Copy)]
 pub struct Stepped {
     pub state: [bool; 293],
     pub ks: bool,

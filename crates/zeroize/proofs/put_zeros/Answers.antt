@@ -15,9 +15,6 @@ one_more l i h e =
 pub loop-i-init : goal.loop-i-init
 loop-i-init c = (refl, omega arith, refl)
 
-pub loop-i-smaller : goal.loop-i-smaller
-loop-i-smaller c = let v = c.loop-i in omega (arith, length-set v.bytes v.i 0)
-
 pub loop-i-preserved : goal.loop-i-preserved
 loop-i-preserved c =
     let v = c.loop-i in
