@@ -137,7 +137,7 @@ size_hints() {
 # The sum of every file of these crates and of crates.txt, names too. It goes by what the files hold, and not by their times: a file put back
 # from an archive is older than the program, and one edited while the proof ran may be, too.
 source_sum() {
-    (cd "$here" && find crates.txt "${crates[@]/#/crates/}" -name out -prune -o -type f -print0 | LC_ALL=C sort -z | xargs -0 sha256sum -- | sha256sum)
+    (cd "$here" && find crates.txt "${crates[@]/#/crates/}" -name out -prune -o \( -type f -o -type l \) -print0 | LC_ALL=C sort -z | xargs -0 sha256sum -- | sha256sum)
 }
 
 program_sum() { sha256sum < "$program"; }
