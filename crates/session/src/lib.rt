@@ -167,7 +167,9 @@ impl Session {
         }
     }
 
-    // A sealing session writes the ciphertext of the piece.
+    // A sealing session writes the ciphertext of the piece. (In its callers' frames: with one of its own, a call for C takes more of the stack
+    // than the header says.)
+    #[inline(always)]
     pub fn seal_text(self, piece: &[u8], out: &mut [u8]) -> Reply
         ensures { Called self (machine.seal_text piece.now out.old) result out.new }
     {
@@ -252,7 +254,8 @@ impl Session {
         }
     }
 
-    // A sealing session writes the tag.
+    // A sealing session writes the tag. (Inlined as `seal_text` is, and for the same reason.)
+    #[inline(always)]
     pub fn seal_close(self, out: &mut [u8]) -> Reply
         ensures { Called self (machine.seal_close out.old) result out.new }
     {

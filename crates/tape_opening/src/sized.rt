@@ -1,4 +1,4 @@
-// Openings that bring a scratch, each of one size, so that a tape takes only as much of the stack as it needs.
+// Openings that bring a scratch, each of one size and in a frame of its own, so that a tape takes only as much of the stack as it needs.
 ghost use Rattle.std.specs.Prelude.{◌+◌, ◌≤◌, length};
 ghost use Rattle.tape_model.specs.Tape.{empty_tape_length};
 ghost use Rattle.tape_opening.specs.Clauses.{OpensTape, OnlyText};
@@ -6,6 +6,7 @@ ghost use Rattle.tape_opening.specs.Clauses.{OpensTape, OnlyText};
 use super::opening::open_by;
 use tape_model::{EMPTY_TAPE_LENGTH, OpenedTape};
 
+#[inline(never)]
 fn open_2048(key: &[u8], tape: &[u8], out: &mut [u8]) -> OpenedTape
     requires { (length tape.now ≤ 2048 + empty_tape_length) × OnlyText key.now tape.now out.old }
     ensures { OpensTape key.now tape.now out.old result out.new }
@@ -14,6 +15,7 @@ fn open_2048(key: &[u8], tape: &[u8], out: &mut [u8]) -> OpenedTape
     open_by(&mut scratch, key, tape, out)
 }
 
+#[inline(never)]
 fn open_8192(key: &[u8], tape: &[u8], out: &mut [u8]) -> OpenedTape
     requires { (length tape.now ≤ 8192 + empty_tape_length) × OnlyText key.now tape.now out.old }
     ensures { OpensTape key.now tape.now out.old result out.new }
@@ -22,6 +24,7 @@ fn open_8192(key: &[u8], tape: &[u8], out: &mut [u8]) -> OpenedTape
     open_by(&mut scratch, key, tape, out)
 }
 
+#[inline(never)]
 fn open_65000(key: &[u8], tape: &[u8], out: &mut [u8]) -> OpenedTape
     requires { (length tape.now ≤ 65000 + empty_tape_length) × OnlyText key.now tape.now out.old }
     ensures { OpensTape key.now tape.now out.old result out.new }

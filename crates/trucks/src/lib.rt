@@ -165,6 +165,7 @@ fn refused_with(number: u8) -> FoundTrucks
 }
 
 // How many different trucks are on a tape, and their set, in one pass over its tickets.
+#[inline(always)]
 pub fn truck_set_of(plain: &[u8]) -> FoundTrucks
     ensures answer_value { count_reply result.answer ≡ plain_trucks plain.now }
     ensures words_value { result.set.words ≡ set_words (set_or_empty (plain_truck_set plain.now)) }
