@@ -164,7 +164,8 @@ fn refused_with(number: u8) -> FoundTrucks
     }
 }
 
-// How many different trucks are on a tape, and their set, in one pass over its tickets.
+// How many different trucks are on a tape, and their set, in one pass over its tickets. (Inlined: with a frame of its own, the call for C on two tapes
+// takes more of the stack than the header says.)
 #[inline(always)]
 pub fn truck_set_of(plain: &[u8]) -> FoundTrucks
     ensures answer_value { count_reply result.answer ≡ plain_trucks plain.now }
