@@ -102,7 +102,9 @@ impl TruckSet {
         n
     }
 
-    // Two sets combined, word by word.
+    // Two sets combined, word by word. (In a frame of its own: with the words of both sets in one frame, the call for C on two tapes takes more of the
+    // stack than the header says.)
+    #[inline(never)]
     fn combined(self, operation: SetOperation, other: TruckSet) -> TruckSet
         ensures { held result.words ≡ combined operation (held self.words) (held other.words) }
     {
@@ -164,9 +166,7 @@ fn refused_with(number: u8) -> FoundTrucks
     }
 }
 
-// How many different trucks are on a tape, and their set, in one pass over its tickets. (Inlined: with a frame of its own, the call for C on two tapes
-// takes more of the stack than the header says.)
-#[inline(always)]
+// How many different trucks are on a tape, and their set, in one pass over its tickets.
 pub fn truck_set_of(plain: &[u8]) -> FoundTrucks
     ensures answer_value { count_reply result.answer ≡ plain_trucks plain.now }
     ensures words_value { result.set.words ≡ set_words (set_or_empty (plain_truck_set plain.now)) }
