@@ -199,7 +199,7 @@ prove() {
     status=${PIPESTATUS[0]}
     set -e
     if [ "$status" -ne 0 ] || [ ! -x "$program" ]; then
-        grep -v '^build: ' "$work/log" | tail -n 20 >&2
+        { grep -v '^build: ' "$work/log" || true; } | tail -n 20 >&2
         note "the program was not proved"
         exit 1
     fi

@@ -1,4 +1,4 @@
--- The demands on the interface for C, from what a caller sees of each call (`haul_tape/specs/Contracts`) and from nothing else.
+-- The demands on the interface for C, from what a caller sees of each call (`haul_tape/specs/Clauses`) and from nothing else.
 use Rattle.std.specs.Prelude.{◌≡◌, true, false, List, [], ◌∷◌, ◌++◌, ◌↔◌, ℕ, zero, suc, ◌+◌, ◌-◌, ◌*◌, ◌≤◌, eqb, ltb, length, take}
 use Rattle.acorn_model.specs.declared.Kind.{Kind}
 use Rattle.acorn_model.specs.Bits.{Bits, bits_in, bytes}

@@ -1,4 +1,5 @@
-// The interface for C, as include/haul_tape.h declares it and in its order. Nothing is asked of the caller but what the header says of pointers:
+// The calls of the interface for C, as include/haul_tape.h declares them and in its order; the crate haul_tape_c exports them. Nothing is asked of the
+// caller but what the header says of pointers:
 // any numbers and any words are taken, and each call's contract is an equation against the definitions of the library's own.
 #![tactic(auto)]
 

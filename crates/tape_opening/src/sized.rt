@@ -34,8 +34,8 @@ fn open_65000(key: &[u8], tape: &[u8], out: &mut [u8]) -> OpenedTape
 }
 
 // Opens with the smallest scratch that holds the text. LLVM takes a function that has one caller into that caller, and with all three arrays in
-// one frame every tape would have the stack of the longest. So they are marked; and it takes no large array into a function that calls itself, so
-// there is such a call, in a branch that no tape comes to.
+// one frame every tape would have the stack of the longest. So they are marked. (An older LLVM took no large array into a function that calls itself:
+// from then is the call in a branch that no tape comes to.)
 pub(crate) fn open_long(key: &[u8], tape: &[u8], out: &mut [u8]) -> OpenedTape
     requires { OnlyText key.now tape.now out.old }
     ensures { OpensTape key.now tape.now out.old result out.new }

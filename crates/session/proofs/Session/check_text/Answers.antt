@@ -24,7 +24,7 @@ module _ (s : Session) (piece : List ℕ) where
   unfolding fixes_right sizes_right output_short
   accepted phase limit = record { phase = phase; fixes = refl; sizes = refl; limit = limit; output = refl }
 
-  -- the piece of an accepted c.args.self c.args.piece.now (allowed-is c.args.self c.args.piece.now _ _ c.is_checking.ensures c.takes_text.ensures ∙ c.if-not-allowed.false) (over-is c.args.self c.args.piece.now _ c.over_limit.ensures ∙ c.if-over_limit.false)all
+  -- the piece of an accepted call
   fits : over_limit (machine_of s).counts (check_text piece) ≡ false → s.text_bytes + length piece ≤ byte_limit
   unfolding machine_of over_limit
   fits limit = ltb-false byte_limit (s.text_bytes + length piece) limit
