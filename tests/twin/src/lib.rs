@@ -9,6 +9,7 @@
 #![forbid(unsafe_code)]
 
 pub mod cipher;
+pub mod cutting;
 pub mod forms;
 pub mod listing;
 pub mod machine;

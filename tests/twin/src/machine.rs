@@ -3,9 +3,11 @@
 //! In every call the tests for a refusal stand first, in the order of their numbers (9 right after
 //! 1), so that the first one that applies is answered. Only then does anything change.
 //!
-//! The length of the tag is fixed at begin (document 02, P4).
+//! The length of the tag is fixed at begin (document 02, P4). Accepted pieces are counted in groups
+//! (document 02, P9).
 
 use crate::cipher::{self, State, STATE_BITS};
+use crate::cutting;
 use crate::number;
 
 /// What a machine is made for, from the start.
@@ -31,13 +33,15 @@ pub struct Done {
     pub steps: u64,
 }
 
-/// The 293 bits with their count of steps, the phase, the bytes taken, and the length of the tag.
+/// The 293 bits with their count of steps, the phase, the bytes taken, the groups of the pieces that
+/// they came in, and the length of the tag.
 #[derive(Clone, PartialEq, Eq, Debug)]
 pub struct Machine {
     kind: Kind,
     phase: Phase,
     data_bytes: u64,
     text_bytes: u64,
+    groups: u64,
     tag_bytes: usize,
     state: State,
 }
@@ -50,6 +54,7 @@ impl Machine {
             phase: Phase::Fresh,
             data_bytes: 0,
             text_bytes: 0,
+            groups: 0,
             tag_bytes: number::MAX_TAG_BYTES,
             state: State::zeros(),
         }
@@ -71,6 +76,11 @@ impl Machine {
     /// Bytes of text taken; of ciphertext in a checking machine.
     pub fn text_bytes(&self) -> u64 {
         self.text_bytes
+    }
+
+    /// Groups of the pieces taken, of data and of text alike.
+    pub fn groups(&self) -> u64 {
+        self.groups
     }
 
     /// The length of the tag: 16 until a begin fixes another.
@@ -120,6 +130,7 @@ impl Machine {
 
         cipher::data(&mut self.state, piece);
         self.data_bytes += piece.len() as u64;
+        self.groups += cutting::groups(piece.len() as u64);
         Ok(self.done(0))
     }
 
@@ -137,6 +148,7 @@ impl Machine {
         let ciphertext = cipher::seal_text(&mut self.state, piece);
         out[..ciphertext.len()].copy_from_slice(&ciphertext);
         self.text_bytes += piece.len() as u64;
+        self.groups += cutting::groups(piece.len() as u64);
         Ok(self.done(ciphertext.len()))
     }
 
@@ -150,6 +162,7 @@ impl Machine {
         self.end_data();
         cipher::open_text(&mut self.state, piece);
         self.text_bytes += piece.len() as u64;
+        self.groups += cutting::groups(piece.len() as u64);
         Ok(self.done(0))
     }
 

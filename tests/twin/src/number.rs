@@ -1,8 +1,8 @@
 //! The refusal numbers and the limits that go with them (document 01, "What sends a call back";
-//! 9 to 13 are from document 02, P4 to P8).
+//! 9 to 14 are from document 02, P4 to P9).
 //!
 //! The smallest number that applies is answered, but 9 comes right after 1: before 2; where tapes are
-//! paired 6 comes after 12; and 13 comes first.
+//! paired 6 comes after 12; and 13 and 14 come first.
 
 /// The phase, or the kind of machine, does not allow the call.
 pub const PHASE: u8 = 1;
@@ -31,6 +31,8 @@ pub const TOO_LATE: u8 = 11;
 pub const TIMES_FALL: u8 = 12;
 /// A rate is too high.
 pub const RATE: u8 = 13;
+/// There is no cutting: no pieces, more of them than bytes, or too many bytes.
+pub const NO_CUTTING: u8 = 14;
 
 /// The most bytes of data, and the most bytes of text, that one message may have.
 pub const MAX_BYTES: usize = 65_536;

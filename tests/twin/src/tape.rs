@@ -47,6 +47,11 @@ impl Writer {
         self.machine.steps()
     }
 
+    /// Groups of the head and of the tickets added, each a piece by itself.
+    pub fn groups(&self) -> u64 {
+        self.machine.groups()
+    }
+
     /// In fresh only: runs begin, then data with the head; writes the head; leads to open.
     pub fn start(&mut self, key: &[u8], head: &Head, out: &mut [u8]) -> Result<Done, u8> {
         if self.phase != WriterPhase::Fresh {
