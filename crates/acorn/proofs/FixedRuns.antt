@@ -14,7 +14,7 @@ use Rattle.acorn_model.specs.Step.{StepInput, run, keystream_bit}
 use Rattle.acorn_model.specs.Stretches.{Stretch, inputs, through, keystream, zeros, start, start_bit, final, tag_of, tag_bytes, full_tag_length}
 use Rattle.calls.specs.Calls.{written_over}
 use Rattle.acorn_kernel.specs.Together.{inputs_from, Together}
-use Rattle.acorn.specs.Runs.{start_state, tag_output, tag_bytes_output}
+use Rattle.acorn.specs.Runs.{Written, start_state, tag_output, tag_bytes_output}
 use Rattle.acorn.specs.Table.{ca_at, cb_at, row_of}
 use Rattle.acorn.specs.declared.stretch.StretchName.TheVariants.{Start, Final}
 use Rattle.calls.proofs.Choices.{lt_or_ge}
@@ -22,7 +22,7 @@ use Rattle.acorn_model.proofs.Runs.{run_add}
 use Rattle.acorn_model.proofs.Bytes.{bytes-length, bytes_same}
 use Rattle.acorn_model.proofs.Outputs.{tag_of-length, tag_bytes-drop, tag_bytes-length}
 use Rattle.acorn_kernel.proofs.WordBits.{bit-above, bit-zero}
-use Rattle.acorn.proofs.StretchRuns.{state_more, ks_more, Written, written_all}
+use Rattle.acorn.proofs.StretchRuns.{state_more, ks_more, written_all}
 use Rattle.acorn.proofs.ControlTable.{in_start, in_final, ca_in, cb_in}
 
 -- what a step takes
@@ -57,12 +57,14 @@ module _ (key nonce : List ℕ) (n i : ℕ) (d : n % 32 ≡ 0) (l : i < 32) wher
       xor_comm false true = refl
       xor_comm false false = refl
 
-pub start_more : (key nonce : List ℕ) (S T T' : Bits) (n x z : ℕ) (ca cb : Bool) → n < 1792 → ca ≡ ca_at n → cb ≡ cb_at n → T ≡ run (inputs (start key nonce)) n S
-    → ((i : ℕ) → i < 32 → bit x i ≡ start_bit key nonce (n + i)) → Together T x false ca cb 32 T' z → T' ≡ run (inputs (start key nonce)) (n + 32) S
+-- what steps n to n + 31 of it take
+pub start_takes : (key nonce : List ℕ) (first n x : ℕ) → first ≤ n → n < 1792 → ((i : ℕ) → i < 32 → bit x i ≡ start_bit key nonce (n + i)) → (i : ℕ) → i < 32
+    → inputs_from false (ca_at n) (cb_at n) (bit x) i ≡ inputs (start key nonce) (first + (n - first) + i)
 unfolding row_of
-start_more key nonce S T T' n x z ca cb h ea eb reached bits steps =
-    state_more (start key nonce) S T T' n 32 x z (omega arith) false ca cb reached
-    (λ i l. ap₂ (λ (a b : Bool). input a b (bit x i)) (ea ∙ ca_in n Start (in_start n h)) (eb ∙ cb_in n Start (in_start n h)) ∙ ap (input true true) (bits i l)) steps
+start_takes key nonce first n x g h bits i l =
+    let there : n + i ≡ first + (n - first) + i = omega arith in
+    ap₂ (λ (a b : Bool). input a b (bit x i)) (ca_in n Start (in_start n h)) (cb_in n Start (in_start n h)) ∙ ap (input true true) (bits i l)
+    ∙ ap (inputs (start key nonce)) there
 
 -- a key or a nonce of another size runs no step
 module _ (key nonce : List ℕ) where
@@ -98,28 +100,36 @@ one_past n i f = bit-zero i ∙ sym (ne_eqb (n + i) 0 (omega arith))
 abbrev end_row : Bool → Stretch
 end_row cb = record { steps = 256; m = λ i ks. eqb i 0; ca = λ i. ltb i 128; cb = cb }
 
-pub end_more : (end : Bool) (S T T' : Bits) (n x z : ℕ) (ca cb : Bool) → n < 256 → n % 32 ≡ 0 → ca ≡ ltb n 128 → cb ≡ end → T ≡ run (inputs (end_row end)) n S
-    → ((i : ℕ) → bit x i ≡ eqb (n + i) 0) → Together T x false ca cb 32 T' z → T' ≡ run (inputs (end_row end)) (n + 32) S
-end_more end S T T' n x z ca cb h d ea eb reached bits steps =
-    state_more (end_row end) S T T' n 32 x z (omega arith) false ca cb reached
-    (λ i l. ap₂ (λ (a b : Bool). input a b (bit x i)) (ea ∙ steady i l) eb ∙ ap (input (ltb (n + i) 128) end) (bits i)) steps
+-- what 32 steps of it take, from step n on
+pub end_takes : (end : Bool) (step n x : ℕ) → n < 256 → n % 32 ≡ 0 → ca_at step ≡ ltb n 128 → cb_at step ≡ end → ((i : ℕ) → bit x i ≡ eqb (n + i) 0) → (i : ℕ) → i < 32
+    → inputs_from false (ca_at step) (cb_at step) (bit x) i ≡ inputs (end_row end) (0 + n + i)
+end_takes end step n x h d ea eb bits i l =
+    let there : n + i ≡ 0 + n + i = omega arith in
+    ap₂ (λ (a b : Bool). input a b (bit x i)) (ea ∙ steady) eb ∙ ap (input (ltb (n + i) 128) end) (bits i) ∙ ap (inputs (end_row end)) there
   where
-    steady : (i : ℕ) → i < 32 → ltb n 128 ≡ ltb (n + i) 128
-    steady i l = ⊎_elim (λ (p : n < 128). lt-ltb n 128 p ∙ sym (lt-ltb (n + i) 128 (omega arith))) (λ (p : 128 ≤ n). le-ltb n 128 p ∙ sym (le-ltb (n + i) 128 (omega arith))) (lt_or_ge n 128)
+    steady : ltb n 128 ≡ ltb (n + i) 128
+    steady = ⊎_elim (λ (p : n < 128). lt-ltb n 128 p ∙ sym (lt-ltb (n + i) 128 (omega arith)))
+        (λ (p : 128 ≤ n). le-ltb n 128 p ∙ sym (le-ltb (n + i) 128 (omega arith))) (lt_or_ge n 128)
 
 -- ## Final
+
+pub final_takes : (step n x : ℕ) → 1050880 ≤ step → x ≡ 0 → (i : ℕ) → inputs_from false (ca_at step) (cb_at step) (bit x) i ≡ inputs final n
+unfolding row_of
+final_takes step n x h e i =
+    ap₂ (λ (a b : Bool). input a b (bit x i)) (ca_in step Final (in_final step h)) (cb_in step Final (in_final step h))
+    ∙ ap (input true true) (ap (λ (y : ℕ). bit y i) e ∙ bit-zero i)
 
 module _ (S T T' : Bits) (step n z : ℕ) (ca cb : Bool) (h : 1050880 ≤ step) (ea : ca ≡ ca_at step) (eb : cb ≡ cb_at step) (reached : T ≡ run (inputs final) n S)
     (steps : Together T 0 false ca cb 32 T' z) where
   same : (i : ℕ) → i < 32 → inputs_from false ca cb (bit 0) i ≡ inputs final (n + i)
-  unfolding row_of
-  same i l = ap₂ (λ (a b : Bool). input a b (bit 0 i)) (ea ∙ ca_in step Final (in_final step h)) (eb ∙ cb_in step Final (in_final step h)) ∙ ap (input true true) (bit-zero i)
+  same i l = ap₂ (λ (a b : Bool). inputs_from false a b (bit 0) i) ea eb ∙ final_takes step (n + i) 0 h refl i
 
   pub final_more : T' ≡ run (inputs final) (n + 32) S
-  final_more = state_more final S T T' n 32 0 z (omega arith) false ca cb reached same steps
+  final_more = state_more (inputs final) S T T' n 32 0 z (omega arith) false ca cb reached same steps
 
   pub final_ks : (q : ℕ) → q < 32 → bit z q ≡ keystream final S (n + q)
-  final_ks = ks_more final S T T' n 32 0 z (omega arith) false ca cb reached same steps
+  unfolding keystream
+  final_ks = ks_more (inputs final) S T T' n 32 0 z (omega arith) false ca cb reached same steps
 
 -- the last 16 bytes of the ks of final
 pub tag_all : (S T : Bits) (out₀ out : List ℕ) → T ≡ run (inputs final) 640 S → full_tag_length ≤ length out₀ → Written (keystream final T) out₀ 16 out → out ≡ tag_output S out₀

@@ -3,9 +3,10 @@
 ghost use Rattle.std.specs.Prelude.{◌≡◌, List, ℕ, ◌+◌, ◌≤◌, ◌<◌, ◌%◌, eqb, length};
 ghost use Rattle.acorn_model.specs.Bits.{bit};
 ghost use Rattle.acorn_model.specs.Stretches.{start_bit};
-ghost use Rattle.acorn.specs.Table.{ca_at, cb_at, ControlsAt};
+ghost use Rattle.acorn.specs.Table.{ControlsAt};
 
 use super::word_bytes::load_word;
+use acorn_kernel::ControlBits;
 
 #[derive(Clone, Copy)]
 pub enum StretchName {
@@ -32,19 +33,22 @@ pub const FINAL: u64 = 1050880;
 #[derive(Clone, Copy)]
 pub struct Controls {
     pub stretch: StretchName,
-    pub ca: bool,
-    pub cb: bool,
+    pub bits: ControlBits,
 }
 
 fn row(stretch: StretchName, ca: bool, cb: bool) -> Controls
-    ensures { (result.stretch ≡ stretch) × (result.ca ≡ ca) × (result.cb ≡ cb) }
+    ensures { (result.stretch ≡ stretch) × (result.bits.ca ≡ ca) × (result.bits.cb ≡ cb) }
 {
-    Controls { stretch, ca, cb }
+    Controls {
+        stretch,
+        bits: ControlBits { ca, cb },
+    }
 }
 
-// The stretch and the control bits of a step, by its number in the longest message: 0 to 1,051,647.
+// The stretch and the control bits of a step, by its number in the longest message: 0 to 1,051,647. Of a literal step they fold where they are asked
+// for, so that the steps together fold with them.
 pub fn controls_at(step: u64) -> Controls
-    ensures { ControlsAt step result.stretch result.ca result.cb }
+    ensures { ControlsAt step result.stretch result.bits.ca result.bits.cb }
 {
     match step {
         0..=1791 => row(StretchName::Start, true, true),
@@ -56,21 +60,6 @@ pub fn controls_at(step: u64) -> Controls
         1050752..=1050879 => row(StretchName::TextEnd, false, false),
         _ => row(StretchName::Final, true, true),
     }
-}
-
-// Each of them by itself. Of a literal step it folds where it is called, so that the steps together fold with it.
-pub(crate) fn ca_at(step: u64) -> bool
-    ensures { result ≡ ca_at step }
-{
-    let c = controls_at(step);
-    c.ca
-}
-
-pub(crate) fn cb_at(step: u64) -> bool
-    ensures { result ≡ cb_at step }
-{
-    let c = controls_at(step);
-    c.cb
 }
 
 // The message bits of an end from its step n on: 1, then zeros.

@@ -1,7 +1,7 @@
 // A tag of any length from 8 to 16 bytes: the last of the sixteen.
-ghost use Rattle.std.specs.Prelude.{◌≡◌, ◌-◌};
+ghost use Rattle.std.specs.Prelude.{◌≡◌};
 ghost use Rattle.calls.specs.Calls.{same_bytes};
-ghost use Rattle.acorn_model.specs.Stretches.{full_tag_length, tag_bytes};
+ghost use Rattle.acorn_model.specs.Stretches.{tag_bytes};
 ghost use Rattle.acorn_model.specs.Machine.{tag_length_right};
 ghost use Rattle.acorn_kernel.specs.Together.{state_of};
 ghost use Rattle.acorn.specs.Runs.{tag_bytes_output};
@@ -16,13 +16,6 @@ pub fn tag_length_right(n: usize) -> bool
     ensures { result ≡ tag_length_right n }
 {
     (LEAST_TAG_LENGTH <= n) & (n <= TAG_BYTES)
-}
-
-// As many bytes of n as the full tag has.
-fn at_most_full(n: usize) -> usize
-    ensures { result ≡ full_tag_length - (full_tag_length - n) }
-{
-    if n < TAG_BYTES { n } else { TAG_BYTES }
 }
 
 // The last n bytes of the tag are written to out, of the state before final, where the tag has as many and out has room for them; else nothing is
@@ -47,7 +40,7 @@ pub fn write_tag_bytes(s: State, n: usize, out: &mut [u8])
 pub fn is_tag_bytes(s: State, n: usize, given: &[u8]) -> bool
     ensures { result ≡ same_bytes given.now (tag_bytes n (state_of s)) }
 {
-    let k = at_most_full(n);
+    let k = n.min(TAG_BYTES);
     let mut last = [0; 16];
     write_tag_bytes(s, k, &mut last);
     same_bytes(given, &last[..k])

@@ -23,6 +23,13 @@ pub struct State {
     pub w5: u64,
 }
 
+// The two control bits of a step.
+#[derive(Clone, Copy)]
+pub struct ControlBits {
+    pub ca: bool,
+    pub cb: bool,
+}
+
 // The state after some steps, and the ks bits of 32 steps, the first of them these.
 #[derive(Clone, Copy)]
 pub struct Stepped {
@@ -86,54 +93,48 @@ fn keystream_word(s: State) -> u32
 }
 
 // The f bits of the next 32 steps, all at once; z are their ks bits.
-fn feedback_word(s: State, ca: bool, cb: bool, z: u32) -> u32
+fn feedback_word(s: State, controls: ControlBits, z: u32) -> u32
     requires { (j : ℕ) → j < 32 → bit z j ≡ keystream_bit (moved_down j (state_of s)) }
-    ensures { (j : ℕ) → j < 32 → bit result j ≡ feedback_bit ca cb (moved_down j (state_of s)) }
+    ensures { (j : ℕ) → j < 32 → bit result j ≡ feedback_bit controls.ca controls.cb (moved_down j (state_of s)) }
 {
     half(from(s, 0))
         ^ !half(updated(s, 107, 66, 61))
         ^ majority(half(from(s, 244)), half(from(s, 23)), half(from(s, 160)))
-        ^ (mask(ca) & half(from(s, 196)))
-        ^ (mask(cb) & z)
+        ^ (mask(controls.ca) & half(from(s, 196)))
+        ^ (mask(controls.cb) & z)
 }
 
 // k steps together, 1 to 32: the message bits are x's in sealing, and x's ⊕ ks in opening.
-fn together(s: State, x: u32, opening: bool, ca: bool, cb: bool, k: u64) -> Stepped
+fn together(s: State, x: u32, opening: bool, controls: ControlBits, k: u64) -> Stepped
     requires { (1 ≤ k) × (k ≤ 32) }
-    ensures { Together (state_of s) x opening ca cb k (state_of result.state) result.ks }
+    ensures { Together (state_of s) x opening controls.ca controls.cb k (state_of result.state) result.ks }
 {
     let z = keystream_word(s);
-    let f = feedback_word(s, ca, cb, z);
+    let f = feedback_word(s, controls, z);
     let new = f ^ ((mask(opening) & z) ^ x);
-    let w0 = s.w0;
-    let w1 = s.w1;
-    let w2 = s.w2;
-    let w3 = s.w3;
-    let w4 = s.w4;
-    let w5 = s.w5;
     Stepped {
         state: State {
-            w0: shifted(w0, updated(s, 61, 23, 0), k),
-            w1: shifted(w1, updated(s, 107, 66, 61), k),
-            w2: shifted(w2, updated(s, 154, 111, 107), k),
-            w3: shifted(w3, updated(s, 193, 160, 154), k),
-            w4: shifted(w4, updated(s, 230, 196, 193), k),
-            w5: shifted_last(w5, from(s, 235) ^ from(s, 230), new, k),
+            w0: shifted(s.w0, updated(s, 61, 23, 0), k),
+            w1: shifted(s.w1, updated(s, 107, 66, 61), k),
+            w2: shifted(s.w2, updated(s, 154, 111, 107), k),
+            w3: shifted(s.w3, updated(s, 193, 160, 154), k),
+            w4: shifted(s.w4, updated(s, 230, 196, 193), k),
+            w5: shifted_last(s.w5, from(s, 235) ^ from(s, 230), new, k),
         },
         ks: z,
     }
 }
 
 // 32 steps together, that take all bits of x.
-pub fn together_word(s: State, x: u32, opening: bool, ca: bool, cb: bool) -> Stepped
-    ensures { Together (state_of s) x opening ca cb 32 (state_of result.state) result.ks }
+pub fn together_word(s: State, x: u32, opening: bool, controls: ControlBits) -> Stepped
+    ensures { Together (state_of s) x opening controls.ca controls.cb 32 (state_of result.state) result.ks }
 {
-    together(s, x, opening, ca, cb, 32)
+    together(s, x, opening, controls, 32)
 }
 
 // Steps together that take the bits of the bytes of x up to byte `last`, 0 to 3; of another number its remainder by 4 counts.
-pub fn together_rest(s: State, x: u32, opening: bool, ca: bool, cb: bool, last: u64) -> Stepped
-    ensures { Together (state_of s) x opening ca cb (8 * (last % 4) + 8) (state_of result.state) result.ks }
+pub fn together_rest(s: State, x: u32, opening: bool, controls: ControlBits, last: u64) -> Stepped
+    ensures { Together (state_of s) x opening controls.ca controls.cb (8 * (last % 4) + 8) (state_of result.state) result.ks }
 {
-    together(s, x, opening, ca, cb, 8 * (last % 4) + 8)
+    together(s, x, opening, controls, 8 * (last % 4) + 8)
 }

@@ -9,11 +9,12 @@ use native.Mathlib.Omega.{arith}
 use lib.Dec.{eqb, ltb}
 use lib.ListN.{length}
 use borrow.Author.Tests.{lt-ltb, le-ltb, eq-eqb, ne_eqb}
+use Rattle.std.proofs.lemmas.Bool.{cases_lt}
 use Rattle.acorn_model.specs.Bits.{Bits, ◌⊕◌, bits_in, bytes}
 use Rattle.acorn_model.specs.Step.{StepInput, run, keystream_bit}
 use Rattle.acorn_model.specs.Stretches.{Stretch, full_tag_length, start_bit, start, data_piece, text_piece, final, inputs, through, keystream, text_out, tag_bytes, zeros, after_data, before_final}
 use Rattle.acorn_model.specs.Paper.{◌from◌to◌, Schedule, input_at, state_at, ks_at, text_bit_out, tag_bit, ciphertext, tag_of_length, decrypted, new_tag_of_length}
-use Rattle.calls.proofs.Choices.{lt_or_ge, if_below, if_past}
+use Rattle.calls.proofs.Choices.{if_below, if_past}
 use Rattle.acorn_model.proofs.Bytes.{bytes_same}
 use Rattle.acorn_model.proofs.Outputs.{tag_bytes_last}
 use Rattle.acorn_model.proofs.Runs.{input-same, run_none, run_on}
@@ -48,7 +49,7 @@ module _ (opening : Bool) (key nonce «data» text : List ℕ) (g : ℕ → Step
 
   start-bit : (ks : Bool) (i : ℕ) → i < 1792 → start_bit key nonce i ≡ (g i).m ks
   unfolding start_bit
-  start-bit ks i l = ⊎_elim in_key onward (lt_or_ge i 128)
+  start-bit ks i l = ⊎_elim in_key onward (cases_lt i 128)
     where
       in_key : i < 128 → start_bit key nonce i ≡ (g i).m ks
       in_key k = if_below i _ k (sym ((h ks).m_key i (omega arith)))
@@ -66,7 +67,7 @@ module _ (opening : Bool) (key nonce «data» text : List ℕ) (g : ℕ → Step
           (ap (λ (b : Bool). b ⊕ bits_in key ((i - 256) % 128)) not_256 ∙ sym ((h ks).m_key_again (i - 256) (omega arith)) ∙ ap (λ (n : ℕ). (g n).m ks) (omega arith)))
 
       onward : 128 ≤ i → start_bit key nonce i ≡ (g i).m ks
-      onward k = ⊎_elim (in_nonce k) (λ (k' : 256 ≤ i). ⊎_elim (λ (k'' : i < 257). inverted (omega arith)) again (lt_or_ge i 257)) (lt_or_ge i 256)
+      onward k = ⊎_elim (in_nonce k) (λ (k' : 256 ≤ i). ⊎_elim (λ (k'' : i < 257). inverted (omega arith)) again (cases_lt i 257)) (cases_lt i 256)
 
   after-start : run g 1792 zeros ≡ B
   unfolding through
@@ -103,11 +104,11 @@ module _ (opening : Bool) (key nonce «data» text : List ℕ) (g : ℕ → Step
   unfolding through
   after-end cb n S e ca-one ca-zero cb-is one zero =
       on (end cb) n 256 S e
-      (λ i l. ⊎_elim (λ (k : i < 128). ca-one i k ∙ sym (lt-ltb i 128 k)) (λ (k : 128 ≤ i). ca-zero i (omega arith) ∙ sym (le-ltb i 128 k)) (lt_or_ge i 128))
+      (λ i l. ⊎_elim (λ (k : i < 128). ca-one i k ∙ sym (lt-ltb i 128 k)) (λ (k : 128 ≤ i). ca-zero i (omega arith) ∙ sym (le-ltb i 128 k)) (cases_lt i 128))
       cb-is
       (λ i l ks. ⊎_elim
       (λ (k : i < 1). ap (λ (x : ℕ). (g x).m ks) {x = 1792 + (n + i)} {y = 1792 + n} (omega arith) ∙ one ks ∙ sym (eq-eqb i 0 (omega arith)))
-      (λ (k : 1 ≤ i). zero ks i (omega arith) ∙ sym (ne_eqb i 0 (omega arith))) (lt_or_ge i 1))
+      (λ (k : 1 ≤ i). zero ks i (omega arith) ∙ sym (ne_eqb i 0 (omega arith))) (cases_lt i 1))
 
   after-data-end : run g (1792 + (A + 256)) zeros ≡ D
   after-data-end =

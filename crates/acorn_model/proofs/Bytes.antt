@@ -7,11 +7,11 @@ use native.Mathlib.Nat.{mod-eq_of_lt}
 use native.Mathlib.Omega.{arith}
 use lib.ListN.{length, drop, get_or, get_or-append}
 use lib.Seq.{drop_at, get_or-append-add}
+use Rattle.std.proofs.lemmas.Bool.{cases_lt}
 use Rattle.acorn_model.specs.Bits.{Bits, bit, bits_in, number, bytes}
 use Rattle.calls.specs.Calls.{AreBytes}
 use Rattle.acorn_model.specs.Laws.{BitOrder}
 use Rattle.acorn_model.proofs.Numbers.{number_of, number_same, number_bit, number_lt}
-use Rattle.calls.proofs.Choices.{lt_or_ge}
 
 -- ## The bits of a string
 
@@ -75,7 +75,7 @@ bytes_are_bytes (suc n) b (suc p) = bytes_are_bytes n (λ i. b (8 + i)) p
 pub bits_of_bytes : (n : ℕ) (b : Bits) (j : ℕ) → j < 8 * n → bits_in (bytes n b) j ≡ b j
 unfolding bytes
 bits_of_bytes zero b j h = absurd (omega arith)
-bits_of_bytes (suc n) b j h = ⊎_elim here (there (λ q l. bits_of_bytes n (λ i. b (8 + i)) q l)) (lt_or_ge j 8)
+bits_of_bytes (suc n) b j h = ⊎_elim here (there (λ q l. bits_of_bytes n (λ i. b (8 + i)) q l)) (cases_lt j 8)
   where
     rest : List ℕ
     rest = bytes n (λ i. b (8 + i))

@@ -1,6 +1,6 @@
 -- Whole sealing and opening: where no number applies, what a refused call leaves, and when a text is written.
 use mathlib.Core.Path.{◌≡◌, refl, sym, ap, ap₂, ◌∙◌}
-use mathlib.Core.Bool.{Bool, true, false, not, ◌||◌}
+use mathlib.Core.Bool.{Bool, true, false, not}
 use mathlib.Core.List.{List}
 use mathlib.Core.Logic.{◌↔◌}
 use Prim.Native.Nat.{ℕ, ◌+◌, ◌-◌, ◌≤◌, ◌<◌}
@@ -9,12 +9,13 @@ use lib.Dec.{ltb}
 use lib.ListN.{length, take}
 use lib.Seq.{take_at, length-take-le}
 use borrow.Author.Tests.{eq-eqb, eqb-true, le-ltb, lt-ltb, ltb-false, not-false}
+use Rattle.std.proofs.Math.Bool.{or-true}
+use Rattle.std.proofs.lemmas.Bool.{and_parts, or_parts}
 use Rattle.calls.specs.Calls.{AreBytes, ◌if◌else◌, Reply, refused, done, unless_refused, written_over, Result, result_of}
 use Rattle.acorn_model.specs.Machine.{least_tag_length, tag_length_right, byte_limit}
 use Rattle.acorn_model.specs.Stretches.{full_tag_length}
 use Rattle.acorn_model.specs.Message.{cipher_part, length_wrong, sizes_wrong, sealed_with, seal_refusal, seal_message, tag_matches_with, opened_with, tag_refusal, open_refusal, open_message}
 use Rattle.acorn_model.specs.Laws.{WithinLimits}
-use Rattle.calls.proofs.Choices.{both, neither}
 use Rattle.acorn_model.proofs.Outputs.{decrypted-length, sealed-length, sealed_are_bytes}
 use Rattle.acorn_model.proofs.Whole.{opened_exactly}
 use Rattle.acorn_model.proofs.Refusals.{length_right, length-told, length_short, length_over}
@@ -37,10 +38,6 @@ written_same : (l k out : List ℕ) → length l ≡ length k → written_over l
 unfolding written_over
 written_same l k out e f = sym (take_at l _ (length k) e) ∙ ap (take (length k)) f ∙ take_at k _ (length k) refl
 
-or-true : (b : Bool) → (b || true) ≡ true
-or-true true = refl
-or-true false = refl
-
 module _ (tag_length : ℕ) (key nonce «data» : List ℕ) where
   -- ## Where no number applies
 
@@ -48,7 +45,7 @@ module _ (tag_length : ℕ) (key nonce «data» : List ℕ) where
   sizes-right e f = rw (eq-eqb _ _ e, eq-eqb _ _ f)
 
   sizes_told : sizes_wrong tag_length key nonce «data» ≡ false → (length key ≡ 16) × (length nonce ≡ 16)
-  sizes_told h = let a = both _ _ (not-false _ h) in (eqb-true _ _ a.0, eqb-true _ _ a.1)
+  sizes_told h = let a = and_parts _ _ (not-false _ h) in (eqb-true _ _ a.0, eqb-true _ _ a.1)
 
   length-passed : least_tag_length ≤ tag_length → tag_length ≤ full_tag_length → length_wrong tag_length key nonce «data» ≡ false
   length-passed l m = rw (length_right tag_length l m)
@@ -62,7 +59,7 @@ module _ (tag_length : ℕ) (key nonce «data» : List ℕ) where
   unfolding seal_refusal
   seal_told text out e =
       let p = passed _ _ _ _ _ 0 (omega arith) (omega arith) (omega arith) (omega arith) e in
-      let limits = neither _ _ p.2 in
+      let limits = or_parts _ _ p.2 in
       let range = length-told tag_length (not-false _ p.0) in
       let right = sizes_told p.1 in (
         record { tag-least = range.0; tag-most = range.1; key_size = right.0; nonce_size = right.1; data_limit = ltb-false _ _ limits.0; text_limit = ltb-false _ _ limits.1 },
@@ -101,8 +98,8 @@ module _ (tag_length : ℕ) (key nonce «data» : List ℕ) where
     open_told m h9 h2 h5 h6 e =
         let p = passed _ _ _ _ _ m h9 h2 h5 h6 e in
         let range = length-told tag_length (not-false _ p.0) in
-        let sizes = neither _ _ p.1 in
-        let limits = neither _ _ p.2 in
+        let sizes = or_parts _ _ p.1 in
+        let limits = or_parts _ _ p.2 in
         let right = sizes_told sizes.0 in (
           record {
             tag-least = range.0;

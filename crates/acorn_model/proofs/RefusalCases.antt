@@ -4,10 +4,10 @@ use mathlib.Core.Bool.{Bool, true, ◌&&◌}
 use mathlib.Core.List.{List, [], ◌∷◌}
 use lib.Dec.{eqb}
 use borrow.Author.Tests.{eqb-true}
+use Rattle.std.proofs.lemmas.Bool.{and_parts}
 use Rattle.acorn_model.specs.Machine.{phase_allows, fixes_right, sizes_right, over_limit, output_short, refusal}
 use Rattle.acorn_model.specs.Message.{seal_refusal, open_refusal}
 use Rattle.acorn_model.specs.RefusalCases.{string, machine_with, RefusalCase, calls_with, seals_with, opens_with, Gets, AllGet, cipher_refusal_cases, tag_length_cases}
-use Rattle.calls.proofs.Choices.{both}
 
 abbrev gets : RefusalCase → Bool
 gets (calls_with tag_length kind phase data_bytes text_bytes call number) = eqb (refusal (machine_with tag_length kind phase data_bytes text_bytes) call) number
@@ -26,7 +26,7 @@ shown (opens_with tag_length key nonce «data» sealed_bytes out number) h = eqb
 
 shown_all : (cs : List RefusalCase) → all_get cs ≡ true → AllGet cs
 shown_all [] h = tt
-shown_all (c ∷ cs) h = let p = both (gets c) (all_get cs) h in (shown c p.0, shown_all cs p.1)
+shown_all (c ∷ cs) h = let p = and_parts (gets c) (all_get cs) h in (shown c p.0, shown_all cs p.1)
 
 pub refusal-cases : AllGet cipher_refusal_cases
 unfolding refusal phase_allows fixes_right sizes_right over_limit output_short seal_refusal open_refusal

@@ -5,10 +5,10 @@ use Prim.Native.Nat.{ℕ, ◌≤◌, ◌<◌}
 use native.Mathlib.Omega.{arith}
 use lib.Dec.{eqb}
 use borrow.Author.Tests.{not-false, leb-true, le-leb, lt-leb}
+use Rattle.std.proofs.lemmas.Bool.{and_parts}
 use Rattle.calls.specs.Calls.{unless_refused}
 use Rattle.acorn_model.specs.Machine.{Machine, Call, least_tag_length, tag_length_right, phase_allows, fixes_right, sizes_right, over_limit, output_short, refusal, work, call}
 use Rattle.acorn_model.specs.Stretches.{full_tag_length}
-use Rattle.calls.proofs.Choices.{both}
 use Rattle.calls.proofs.Refusals.{link}
 
 -- ## 9
@@ -18,7 +18,7 @@ module _ (n : ℕ) where
   length_right l m = rw (le-leb least_tag_length n l, le-leb n full_tag_length m)
 
   pub length-told : tag_length_right n ≡ true → (least_tag_length ≤ n) × (n ≤ full_tag_length)
-  length-told h = let b = both _ _ h in (leb-true _ _ b.0, leb-true _ _ b.1)
+  length-told h = let b = and_parts _ _ h in (leb-true _ _ b.0, leb-true _ _ b.1)
 
   pub length_short : n < least_tag_length → tag_length_right n ≡ false
   length_short l = rw (lt-leb least_tag_length n l)

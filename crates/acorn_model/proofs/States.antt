@@ -6,12 +6,13 @@ use Prim.Native.Nat.{ℕ, zero, suc, ◌≤◌, ◌<◌}
 use native.Mathlib.Omega.{arith}
 use lib.Dec.{leb}
 use borrow.Author.Tests.{le-leb, leb-true}
+use Rattle.std.proofs.lemmas.Bool.{cases_lt}
 use Rattle.acorn_model.specs.Bits.{Bits, ◌⊕◌}
 use Rattle.calls.specs.Calls.{◌if◌else◌}
 use Rattle.acorn_model.specs.Step.{◌⊕=◌and◌, lfsr_update, ksg128, fbk128, keystream_bit, feedback_bit, step, StepInput, step_on, run}
 use Rattle.acorn_model.specs.Stretches.{Stretch, inputs, through, keystream, text_piece, text_out, final, tag_of}
 use Rattle.acorn_model.specs.Laws.{SameState, StateBits}
-use Rattle.calls.proofs.Choices.{lt_or_ge, if_unequal}
+use Rattle.calls.proofs.Choices.{if_unequal}
 
 -- ## One step
 
@@ -28,7 +29,7 @@ module _ (ca cb m : Bool) (S : Bits) where
   pub step-by_bits : (R : Bits) → ((q : ℕ) → q < 292 → R q ≡ lfsr_update S (suc q)) → R 292 ≡ feedback_bit ca cb S ⊕ m → (q : ℕ) → q ≤ 292 → R q ≡ step ca cb m S q
   step-by_bits R shifts new q l =
       ⊎_elim (λ (k : q < 292). shifts q k ∙ sym (step_shifts q k))
-      (λ (k : 292 ≤ q). let e : q ≡ 292 = omega arith in rw e (new ∙ sym step_new)) (lt_or_ge q 292)
+      (λ (k : 292 ≤ q). let e : q ≡ 292 = omega arith in rw e (new ∙ sym step_new)) (cases_lt q 292)
 
 -- ## The same 293 bits
 

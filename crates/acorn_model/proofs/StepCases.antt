@@ -2,10 +2,10 @@
 use mathlib.Core.Path.{◌≡◌, refl}
 use mathlib.Core.Bool.{Bool, true, false, ◌&&◌, beq, false≢true}
 use mathlib.Core.List.{List, [], ◌∷◌}
+use Rattle.std.proofs.lemmas.Bool.{and_parts}
 use Rattle.acorn_model.specs.Bits.{Bits}
 use Rattle.acorn_model.specs.Step.{◌⊕=◌and◌, lfsr_update, maj, ch, ksg128, fbk128, keystream_bit, feedback_bit, step}
 use Rattle.acorn_model.specs.StepCases.{Control, set, either, Observation, ks, ◌is◌, StepCase, state_with, ForEach, Observed, StepHolds, AllSteps, further_cases}
-use Rattle.calls.proofs.Choices.{both}
 
 -- ## The test
 
@@ -32,15 +32,15 @@ same false false h = refl
 shown-seen : (ca cb m : Bool) (S : Bits) (expected : List Observation) → seen ca cb m S expected ≡ true → Observed ca cb m S expected
 shown-seen ca cb m S [] h = tt
 shown-seen ca cb m S (ks b ∷ expected) h =
-    let p = both (beq (keystream_bit S) b) (seen ca cb m S expected) h in
+    let p = and_parts (beq (keystream_bit S) b) (seen ca cb m S expected) h in
     (same (keystream_bit S) b p.0, shown-seen ca cb m S expected p.1)
 shown-seen ca cb m S ((q is b) ∷ expected) h =
-    let p = both (beq (step ca cb m S q) b) (seen ca cb m S expected) h in
+    let p = and_parts (beq (step ca cb m S q) b) (seen ca cb m S expected) h in
     (same (step ca cb m S q) b p.0, shown-seen ca cb m S expected p.1)
 
 shown-each : (c : Control) (p : Bool → Bool) (P : Bool → Type 0) → ((b : Bool) → p b ≡ true → P b) → for_each c p ≡ true → ForEach c P
 shown-each (set b) p P f h = f b h
-shown-each either p P f h = let q = both (p false) (p true) h in (f false q.0, f true q.1)
+shown-each either p P f h = let q = and_parts (p false) (p true) h in (f false q.0, f true q.1)
 
 pub shown-step : (c : StepCase) → step_holds c ≡ true → StepHolds c
 shown-step c h =
@@ -57,7 +57,7 @@ all_hold (c ∷ cs) = step_holds c && all_hold cs
 
 shown_all : (cs : List StepCase) → all_hold cs ≡ true → AllSteps cs
 shown_all [] h = tt
-shown_all (c ∷ cs) h = let p = both (step_holds c) (all_hold cs) h in (shown-step c p.0, shown_all cs p.1)
+shown_all (c ∷ cs) h = let p = and_parts (step_holds c) (all_hold cs) h in (shown-step c p.0, shown_all cs p.1)
 
 pub further-cases : AllSteps further_cases
 unfolding step feedback_bit fbk128 keystream_bit ksg128 lfsr_update ◌⊕=◌and◌ maj ch

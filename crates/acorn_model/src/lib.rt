@@ -1,13 +1,13 @@
 // What code and specification share: the kinds and phases of a session, and the lengths of its strings and stretches.
 #![tactic(auto)]
 
-#[derive(Clone, Copy)]
+#[derive(Clone, Copy, Debug, PartialEq, Eq)]
 pub enum Kind {
     Sealing,
     Checking,
 }
 
-#[derive(Clone, Copy)]
+#[derive(Clone, Copy, Debug, PartialEq, Eq)]
 pub enum Phase {
     Fresh,
     Data,

@@ -1,30 +1,15 @@
 // For the benchmark: 400 sealing sessions, each of 65,000 bytes of text in pieces of 13. Prints the steps of the last, and the first byte of its tag.
 #![tactic(auto)]
 
-ghost use Rattle.std.specs.Prelude.{◌≡◌, length};
-
 use acorn_model::Kind;
 use calls::Answer;
 use session::Session;
 use std::io;
 
-fn steps_of(answer: Answer) -> u64 {
-    match answer {
-        Answer::Refused(_) => 0,
-        Answer::Done(_, steps) => steps,
-    }
-}
-
-fn buffer() -> [u8; 65000]
-    ensures { 65000 ≡ length result }
-{
-    [0; 65000]
-}
-
 // Bytes that are not all alike.
 fn fill(text: &mut [u8]) {
-    for i in 0..text.len() {
-        text[i] = (i % 251) as u8;
+    for (i, byte) in text.iter_mut().enumerate() {
+        *byte = (i % 251) as u8;
     }
 }
 
@@ -33,39 +18,31 @@ fn sealed(nonce: &mut [u8], text: &[u8], each: usize, out: &mut [u8]) -> u64 {
     if each == 0 || 65536 < text.len() || out.len() < text.len() {
         return 0;
     }
-    let begun = Session::fresh(Kind::Sealing).begin(nonce, nonce);
-    let mut s = begun.session;
-    let mut at: usize = 0;
+    let mut session = Session::fresh(Kind::Sealing).begin(nonce, nonce).session;
+    let mut at = 0;
+    // by a place: over a range of numbers a piece takes 11 of 383 instructions more, over `chunks_exact` 150
     while text.len() - at >= each {
-        let end = at + each;
-        let reply = s.seal_text(&text[at..end], &mut out[at..]);
-        let next = reply.session;
-        s = next;
-        at = end;
+        let piece = &text[at..at + each];
+        session = session.seal_text(piece, &mut out[at..]).session;
+        at += each;
     }
-    let closed = s.seal_close(nonce);
-    let answer = closed.answer;
-    steps_of(answer)
-}
-
-fn wide(b: u8) -> u64 {
-    b as u64
-}
-
-fn size(b: u8) -> usize {
-    b as usize
+    match session.seal_close(nonce).answer {
+        Answer::Refused(_) => 0,
+        Answer::Done(_, steps) => steps,
+    }
 }
 
 fn main(rt: HostRuntime) -> io::Result<()> {
-    let mut text = buffer();
+    // arrays of fixed size, since the project allows no heap
+    let mut text = [0; 65000];
     fill(&mut text);
     // 13, which the compiler does not know
-    let each = size(text[13]);
-    let mut out = buffer();
+    let each = usize::from(text[13]);
+    let mut out = [0; 65000];
     let mut nonce = [0; 16];
-    let mut steps: u64 = 0;
+    let mut steps = 0;
     for _ in 0..400 {
         steps = sealed(&mut nonce, &text, each, &mut out);
     }
-    println!(rt; "{steps} {}", wide(nonce[0]))
+    println!(rt; "{steps} {}", nonce[0])
 }

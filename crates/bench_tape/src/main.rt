@@ -1,29 +1,14 @@
 // For the benchmark: 400 tapes of 5,000 tickets, written add by add. Prints the steps of the last, and the first byte of its tag.
 #![tactic(auto)]
 
-ghost use Rattle.std.specs.Prelude.{◌≡◌, length};
-
 use calls::Answer;
 use std::io;
-use tape_model::{Head, Ticket};
+use tape_model::{HEAD_LENGTH, Head, TICKET_LENGTH, Ticket};
 use tape_writer::Writer;
-
-fn steps_of(answer: Answer) -> u64 {
-    match answer {
-        Answer::Refused(_) => 0,
-        Answer::Done(_, steps) => steps,
-    }
-}
-
-fn buffer() -> [u8; 65025]
-    ensures { 65025 ≡ length result }
-{
-    [0; 65025]
-}
 
 // Tickets that are not all alike.
 fn ticket_at(n: u16) -> Ticket {
-    let second = n as u32;
+    let second = u32::from(n);
     Ticket {
         form: 1,
         truck: n % 1000 + 1,
@@ -38,41 +23,31 @@ fn ticket_at(n: u16) -> Ticket {
 }
 
 // A tape. Its tag becomes the key, so that each tape needs the one before it.
-fn written(key: &mut [u8], out: &mut [u8]) -> u64 {
-    if out.len() < 65025 {
-        return 0;
-    }
+fn written(key: &mut [u8], out: &mut [u8; 65025]) -> u64 {
     let head = Head {
         device: 7,
         shift: 2,
         sheet: 1,
     };
-    let started = Writer::fresh().start(key, head, out);
-    let mut w = started.writer;
-    let mut i: u16 = 0;
-    let mut at: usize = 9;
-    while i < 5000 {
-        let reply = w.add(ticket_at(i), &mut out[at..]);
-        let next = reply.writer;
-        w = next;
-        at += 13;
-        i += 1;
+    let mut writer = Writer::fresh().start(key, head, out).writer;
+    // by a range of numbers: over `chunks_exact_mut` an add takes 120 of 380 instructions more
+    for n in 0..5000 {
+        let at = HEAD_LENGTH + TICKET_LENGTH * usize::from(n);
+        writer = writer.add(ticket_at(n), &mut out[at..]).writer;
     }
-    let finished = w.finish(key);
-    let answer = finished.answer;
-    steps_of(answer)
-}
-
-fn wide(b: u8) -> u64 {
-    b as u64
+    match writer.finish(key).answer {
+        Answer::Refused(_) => 0,
+        Answer::Done(_, steps) => steps,
+    }
 }
 
 fn main(rt: HostRuntime) -> io::Result<()> {
-    let mut out = buffer();
+    // arrays of fixed size, since the project allows no heap
+    let mut out = [0; 65025];
     let mut key = [0; 16];
-    let mut steps: u64 = 0;
+    let mut steps = 0;
     for _ in 0..400 {
         steps = written(&mut key, &mut out);
     }
-    println!(rt; "{steps} {}", wide(key[0]))
+    println!(rt; "{steps} {}", key[0])
 }

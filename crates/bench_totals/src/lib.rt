@@ -5,16 +5,11 @@ ghost use Rattle.std.specs.Prelude.{◌≡◌};
 ghost use Rattle.tape_model.specs.Tape.{plain_totals};
 ghost use Rattle.bench_totals.specs.Net.{net_or_zero};
 
-use tape_model::TicketTotals;
-
 // The total net of plain bytes, or 0 where they are refused.
+#[tactic(auto, unfolding(crate::specs::Net::net_or_zero, calls::specs::Calls::as_reply))]
 #[unsafe(no_mangle)]
 pub extern "C" fn bench_totals(plain: &[u8]) -> u64
     ensures { result ≡ net_or_zero (plain_totals plain.now) }
 {
-    let answer = ticket::totals(plain);
-    match answer {
-        TicketTotals::Refused(_) => 0,
-        TicketTotals::Done(_, net) => net,
-    }
+    ticket::totals(plain).map_or(0, |totals| totals.net)
 }

@@ -4,10 +4,10 @@ use Rattle.calls.specs.Calls.{Reply, refused, done, Work}
 use Rattle.tape_model.specs.declared.Ticket.{Ticket}
 use Rattle.tape_model.specs.declared.Head.{Head}
 use Rattle.tape_model.specs.Ticket.{no_ticket}
-use Rattle.tape_model.specs.Tape.{Totals}
+use Rattle.tape_model.specs.declared.Totals.{Totals}
 use Rattle.tape_model.specs.Reader.{Reading, ticket, at_end}
-use Rattle.trucks.specs.Trucks.{TrucksOfTwo}
-use Rattle.pairing.specs.Pairing.{Counts}
+use Rattle.trucks.specs.declared.TrucksOfTwo.{TrucksOfTwo}
+use Rattle.pairing.specs.declared.Counts.{Counts}
 use Rattle.receptions.specs.Receptions.{PartingReply, refused_at, not_parted, Mast, first_mast, second_mast, Part}
 use Rattle.c_answers.specs.declared.HtAnswer.{HtAnswer}
 use Rattle.c_answers.specs.declared.HtWritten.{HtWritten}

@@ -1,23 +1,20 @@
 // Answers as structs of numbers, for C: `refused` is 0 where the call was done; else it is the number, and the rest is zeros, but that a
 // reading's position stays, and 10 comes with its place. A part of a reception is of a call that is never refused.
-#![tactic(auto)]
+#![tactic(auto, unfolding(calls::specs::Calls::answer_reply, calls::specs::Calls::as_reply, calls::specs::Calls::left_unchanged, tape_model::specs::Reader::next_reply, receptions::specs::Clauses::parting_reply, crate::specs::Answers::written_numbers, crate::specs::Answers::answer_numbers, crate::specs::Answers::opened_numbers, crate::specs::Answers::ticket_numbers, crate::specs::Answers::head_numbers, crate::specs::Answers::reading_numbers, crate::specs::Answers::count_numbers, crate::specs::Answers::counts_numbers, crate::specs::Answers::parted_numbers, crate::specs::Answers::paired_numbers,))]
 
 ghost use Rattle.std.specs.Prelude.{◌≡◌};
-ghost use Rattle.calls.specs.Calls.{answer_reply, written_reply, left_unchanged};
-ghost use Rattle.tape_model.specs.Ticket.{no_ticket, ticket_reply, head_reply};
-ghost use Rattle.tape_model.specs.Tape.{opened_reply};
+ghost use Rattle.calls.specs.Refusals.{refusal_number};
+ghost use Rattle.calls.specs.Calls.{answer_reply, as_reply, left_unchanged};
 ghost use Rattle.tape_model.specs.Reader.{next_reply};
-ghost use Rattle.trucks.specs.Words.{count_reply, counts_reply};
 ghost use Rattle.receptions.specs.Clauses.{parting_reply};
-ghost use Rattle.pairing.specs.Clauses.{paired_reply};
-ghost use Rattle.c_answers.specs.Answers.{written_numbers, answer_numbers, opened_numbers, no_head, ticket_numbers, head_numbers, reading_numbers, count_numbers, counts_numbers, parted_numbers, paired_numbers};
+ghost use Rattle.c_answers.specs.Answers.{written_numbers, answer_numbers, opened_numbers, ticket_numbers, head_numbers, reading_numbers, count_numbers, counts_numbers, parted_numbers, paired_numbers};
 
-use calls::{Answer, Written};
-use pairing::PairedTapes;
+use calls::{Answer, Refusal};
+use pairing::Counts;
 use reader::ReadAt;
-use receptions::PartingAnswer;
-use tape_model::{Head, NextTicket, OpenedTape, Ticket, UnpackedHead, UnpackedTicket};
-use trucks::{TruckCount, TruckCounts};
+use receptions::PartedAt;
+use tape_model::{Head, Ticket, Totals};
+use trucks::TrucksOfTwo;
 
 #[repr(C)]
 #[derive(Clone, Copy)]
@@ -104,215 +101,203 @@ pub struct HtPaired {
     pub left_second: u64,
 }
 
-fn wide(number: u8) -> u32
-    ensures { result ≡ number }
+// The number of a refusal, as wide as C is told it.
+fn number(refusal: Refusal) -> u32
+    ensures { result ≡ refusal_number refusal }
 {
-    number as u32
+    u32::from(u8::from(refusal))
 }
 
-fn size(n: usize) -> u64
-    ensures { result ≡ n }
-{
-    n as u64
-}
+impl From<Result<usize, Refusal>> for HtWritten {
+    ghost from_gives = { λ answer numbers. numbers ≡ written_numbers (as_reply answer) };
 
-fn no_ticket() -> Ticket
-    ensures { result ≡ no_ticket }
-{
-    Ticket {
-        form: 0,
-        truck: 0,
-        shovel: 0,
-        tip: 0,
-        grade: 0,
-        loaded: 0,
-        tipped: 0,
-        gross: 0,
-        tare: 0,
+    fn from(answer: Result<usize, Refusal>) -> HtWritten {
+        match answer {
+            Err(refusal) => HtWritten {
+                refused: number(refusal),
+                bytes: 0,
+            },
+            Ok(n) => HtWritten {
+                refused: 0,
+                bytes: n as u64,
+            },
+        }
     }
 }
 
-fn no_head() -> Head
-    ensures { result ≡ no_head }
-{
-    Head {
-        device: 0,
-        shift: 0,
-        sheet: 0,
+impl From<Answer> for HtAnswer {
+    ghost from_gives = { λ answer numbers. numbers ≡ answer_numbers (answer_reply answer) };
+
+    fn from(answer: Answer) -> HtAnswer {
+        match answer {
+            Answer::Refused(refusal) => HtAnswer {
+                refused: number(refusal),
+                bytes: 0,
+                steps: 0,
+            },
+            Answer::Done(n, steps) => HtAnswer {
+                refused: 0,
+                bytes: n as u64,
+                steps,
+            },
+        }
     }
 }
 
-pub fn written(answer: Written) -> HtWritten
-    ensures { result ≡ written_numbers (written_reply answer) }
-{
-    match answer {
-        Written::Refused(n) => HtWritten {
-            refused: wide(n),
-            bytes: 0,
-        },
-        Written::Done(n) => HtWritten {
-            refused: 0,
-            bytes: size(n),
-        },
-    }
-}
-
-pub fn answered(answer: Answer) -> HtAnswer
-    ensures { result ≡ answer_numbers (answer_reply answer) }
-{
-    match answer {
-        Answer::Refused(n) => HtAnswer {
-            refused: wide(n),
-            bytes: 0,
-            steps: 0,
-        },
-        Answer::Done(n, steps) => HtAnswer {
-            refused: 0,
-            bytes: size(n),
-            steps,
-        },
-    }
-}
-
-// Whether a refused call has left its session or writer as it was: a wrong tag (7) closes a session.
+// Whether a refused call has left its session or writer as it was: a wrong tag closes a session.
 pub fn left_unchanged(answer: Answer) -> bool
     ensures { result ≡ left_unchanged (answer_reply answer) }
 {
     match answer {
-        Answer::Refused(n) => n != 7,
+        Answer::Refused(refusal) => refusal != Refusal::WrongTag,
         Answer::Done(_, _) => false,
     }
 }
 
-pub fn opened(answer: OpenedTape) -> HtOpened
-    ensures { result ≡ opened_numbers (opened_reply answer) }
-{
-    match answer {
-        OpenedTape::Refused(n) => HtOpened {
-            refused: wide(n),
-            tickets: 0,
-            net: 0,
-        },
-        OpenedTape::Done(n, net) => HtOpened {
-            refused: 0,
-            tickets: size(n),
-            net,
-        },
+impl From<Result<Totals, Refusal>> for HtOpened {
+    ghost from_gives = { λ answer numbers. numbers ≡ opened_numbers (as_reply answer) };
+
+    fn from(answer: Result<Totals, Refusal>) -> HtOpened {
+        match answer {
+            Err(refusal) => HtOpened {
+                refused: number(refusal),
+                tickets: 0,
+                net: 0,
+            },
+            Ok(totals) => HtOpened {
+                refused: 0,
+                tickets: totals.tickets as u64,
+                net: totals.net,
+            },
+        }
     }
 }
 
-pub fn unpacked_ticket(answer: UnpackedTicket) -> HtUnpackedTicket
-    ensures { result ≡ ticket_numbers (ticket_reply answer) }
-{
-    match answer {
-        UnpackedTicket::Refused(n) => HtUnpackedTicket {
-            refused: wide(n),
-            ticket: no_ticket(),
-        },
-        UnpackedTicket::Done(ticket) => HtUnpackedTicket { refused: 0, ticket },
+impl From<Result<Ticket, Refusal>> for HtUnpackedTicket {
+    ghost from_gives = { λ answer numbers. numbers ≡ ticket_numbers (as_reply answer) };
+
+    fn from(answer: Result<Ticket, Refusal>) -> HtUnpackedTicket {
+        match answer {
+            Err(refusal) => HtUnpackedTicket {
+                refused: number(refusal),
+                ticket: Ticket::default(),
+            },
+            Ok(ticket) => HtUnpackedTicket { refused: 0, ticket },
+        }
     }
 }
 
-pub fn unpacked_head(answer: UnpackedHead) -> HtUnpackedHead
-    ensures { result ≡ head_numbers (head_reply answer) }
-{
-    match answer {
-        UnpackedHead::Refused(n) => HtUnpackedHead {
-            refused: wide(n),
-            head: no_head(),
-        },
-        UnpackedHead::Done(head) => HtUnpackedHead { refused: 0, head },
+impl From<Result<Head, Refusal>> for HtUnpackedHead {
+    ghost from_gives = { λ answer numbers. numbers ≡ head_numbers (as_reply answer) };
+
+    fn from(answer: Result<Head, Refusal>) -> HtUnpackedHead {
+        match answer {
+            Err(refusal) => HtUnpackedHead {
+                refused: number(refusal),
+                head: Head::default(),
+            },
+            Ok(head) => HtUnpackedHead { refused: 0, head },
+        }
     }
 }
 
-pub fn reading(read: ReadAt) -> HtReading
-    ensures { result ≡ reading_numbers (next_reply read.answer) read.position }
-{
-    let answer = read.answer;
-    let position = size(read.position);
-    match answer {
-        NextTicket::Refused(n) => HtReading {
-            refused: wide(n),
-            at_end: 0,
-            position,
-            ticket: no_ticket(),
-        },
-        NextTicket::Done(ticket) => HtReading {
-            refused: 0,
-            at_end: 0,
-            position,
-            ticket,
-        },
-        NextTicket::End => HtReading {
-            refused: 0,
-            at_end: 1,
-            position,
-            ticket: no_ticket(),
-        },
+impl From<ReadAt> for HtReading {
+    ghost from_gives = { λ read numbers. numbers ≡ reading_numbers (next_reply read.answer) read.position };
+
+    fn from(read: ReadAt) -> HtReading {
+        let position = read.position as u64;
+        match read.answer {
+            Err(refusal) => HtReading {
+                refused: number(refusal),
+                at_end: 0,
+                position,
+                ticket: Ticket::default(),
+            },
+            Ok(Some(ticket)) => HtReading {
+                refused: 0,
+                at_end: 0,
+                position,
+                ticket,
+            },
+            Ok(None) => HtReading {
+                refused: 0,
+                at_end: 1,
+                position,
+                ticket: Ticket::default(),
+            },
+        }
     }
 }
 
-pub fn truck_count(answer: TruckCount) -> HtTruckCount
-    ensures { result ≡ count_numbers (count_reply answer) }
-{
-    match answer {
-        TruckCount::Refused(n) => HtTruckCount {
-            refused: wide(n),
-            trucks: 0,
-        },
-        TruckCount::Done(trucks) => HtTruckCount { refused: 0, trucks },
+impl From<Result<u32, Refusal>> for HtTruckCount {
+    ghost from_gives = { λ answer numbers. numbers ≡ count_numbers (as_reply answer) };
+
+    fn from(answer: Result<u32, Refusal>) -> HtTruckCount {
+        match answer {
+            Err(refusal) => HtTruckCount {
+                refused: number(refusal),
+                trucks: 0,
+            },
+            Ok(trucks) => HtTruckCount { refused: 0, trucks },
+        }
     }
 }
 
-pub fn truck_counts(answer: TruckCounts) -> HtTruckCounts
-    ensures { result ≡ counts_numbers (counts_reply answer) }
-{
-    match answer {
-        TruckCounts::Refused(n) => HtTruckCounts {
-            refused: wide(n),
-            both: 0,
-            either: 0,
-            just_one: 0,
-        },
-        TruckCounts::Done(both, either, just_one) => HtTruckCounts {
-            refused: 0,
-            both,
-            either,
-            just_one,
-        },
+impl From<Result<TrucksOfTwo, Refusal>> for HtTruckCounts {
+    ghost from_gives = { λ answer numbers. numbers ≡ counts_numbers (as_reply answer) };
+
+    fn from(answer: Result<TrucksOfTwo, Refusal>) -> HtTruckCounts {
+        match answer {
+            Err(refusal) => HtTruckCounts {
+                refused: number(refusal),
+                both: 0,
+                either: 0,
+                just_one: 0,
+            },
+            Ok(counts) => HtTruckCounts {
+                refused: 0,
+                both: counts.both,
+                either: counts.either,
+                just_one: counts.just_one,
+            },
+        }
     }
 }
 
-pub fn parted(answer: PartingAnswer) -> HtParted
-    ensures { result ≡ parted_numbers (parting_reply answer) }
-{
-    match answer {
-        PartingAnswer::Refused(n, place) => HtParted {
-            refused: wide(n),
-            place: size(place),
-        },
-        PartingAnswer::NotParted => HtParted {
-            refused: 0,
-            place: 0,
-        },
+impl From<Result<(), PartedAt>> for HtParted {
+    ghost from_gives = { λ answer numbers. numbers ≡ parted_numbers (parting_reply answer) };
+
+    fn from(answer: Result<(), PartedAt>) -> HtParted {
+        match answer {
+            Err(parted) => HtParted {
+                refused: number(parted.refusal),
+                place: parted.place as u64,
+            },
+            Ok(()) => HtParted {
+                refused: 0,
+                place: 0,
+            },
+        }
     }
 }
 
-pub fn paired(answer: PairedTapes) -> HtPaired
-    ensures { result ≡ paired_numbers (paired_reply answer) }
-{
-    match answer {
-        PairedTapes::Refused(n) => HtPaired {
-            refused: wide(n),
-            pairs: 0,
-            left_first: 0,
-            left_second: 0,
-        },
-        PairedTapes::Done(pairs, left_first, left_second) => HtPaired {
-            refused: 0,
-            pairs: size(pairs),
-            left_first: size(left_first),
-            left_second: size(left_second),
-        },
+impl From<Result<Counts, Refusal>> for HtPaired {
+    ghost from_gives = { λ answer numbers. numbers ≡ paired_numbers (as_reply answer) };
+
+    fn from(answer: Result<Counts, Refusal>) -> HtPaired {
+        match answer {
+            Err(refusal) => HtPaired {
+                refused: number(refusal),
+                pairs: 0,
+                left_first: 0,
+                left_second: 0,
+            },
+            Ok(counts) => HtPaired {
+                refused: 0,
+                pairs: counts.pairs as u64,
+                left_first: counts.left_first as u64,
+                left_second: counts.left_second as u64,
+            },
+        }
     }
 }

@@ -6,3 +6,4 @@ pub mod SameBytes
 pub mod Writing
 pub mod Lists
 pub mod Made
+pub mod Numbers

@@ -5,8 +5,8 @@ use mathlib.Core.List.{List, [], ◌∷◌}
 use Prim.Native.Nat.{ℕ}
 use lib.Dec.{eqb}
 use borrow.Author.Tests.{eq-eqb, eqb-true}
+use Rattle.std.proofs.lemmas.Bool.{and_parts}
 use Rattle.calls.specs.Calls.{same_bytes}
-use Rattle.calls.proofs.Choices.{both}
 
 pub same-bytes-refl : (l : List ℕ) → same_bytes l l ≡ true
 unfolding same_bytes
@@ -18,4 +18,4 @@ unfolding same_bytes
 same-bytes-true [] [] h = refl
 same-bytes-true [] (y ∷ k) h = absurd (false≢true h)
 same-bytes-true (x ∷ l) [] h = absurd (false≢true h)
-same-bytes-true (x ∷ l) (y ∷ k) h = let a = both (eqb x y) (same_bytes l k) h in ap₂ ◌∷◌ (eqb-true x y a.0) (same-bytes-true l k a.1)
+same-bytes-true (x ∷ l) (y ∷ k) h = let a = and_parts (eqb x y) (same_bytes l k) h in ap₂ ◌∷◌ (eqb-true x y a.0) (same-bytes-true l k a.1)

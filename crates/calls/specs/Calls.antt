@@ -1,9 +1,10 @@
 -- What a call of any kind answers, when it is sent back, and what it comes to: the words in which every crate above says it.
-use Rattle.std.specs.Prelude.{Bool, true, false, not, cond, ◌&&◌, List, [], ◌∷◌, ◌++◌, ℕ, zero, suc, ◌<◌, eqb, leb, ltb, length, drop, get_or}
+use Rattle.std.specs.Prelude as std
+use Rattle.std.specs.Prelude.{Ok, Err, Bool, true, false, not, cond, ◌&&◌, List, [], ◌∷◌, ◌++◌, ℕ, zero, suc, ◌<◌, eqb, leb, ltb, length, drop, get_or}
 use Rattle.calls.specs.declared.Answer.{Answer}
 use Rattle.calls.specs.declared.Answer.TheVariants.{Refused, Done}
-use Rattle.calls.specs.declared.Written.{Written}
-use Rattle.calls.specs.declared.Written.TheVariants.{Refused as NotWritten, Done as WrittenBytes}
+use Rattle.calls.specs.declared.Refusal.{Refusal}
+use Rattle.calls.specs.Refusals.{refusal_number}
 
 infixr 5 ◌if◌else◌
 -- a where the test holds, else b
@@ -22,14 +23,14 @@ pub record Work : Type 0 where
   pub bytes : ℕ
   pub steps : ℕ
 
--- document 01's number and values for each case of the answers in code
+-- the papers' number and values for each case of the answers in code
 unfoldable pub answer_reply : Answer → Reply Work
-answer_reply (Refused n) = refused n
+answer_reply (Refused r) = refused (refusal_number r)
 answer_reply (Done bytes steps) = done (record { bytes = bytes; steps = steps })
 
-unfoldable pub written_reply : Written → Reply ℕ
-written_reply (NotWritten n) = refused n
-written_reply (WrittenBytes n) = done n
+unfoldable pub as_reply : {A : Type 0} → std.Result A Refusal → Reply A
+as_reply (Err r) = refused (refusal_number r)
+as_reply (Ok a) = done a
 
 abbrev pub is_refused : {A : Type 0} → Reply A → Bool
 is_refused (refused n) = true

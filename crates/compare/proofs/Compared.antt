@@ -1,25 +1,22 @@
--- Two strings compared byte by byte, with the differences gathered in a number: what it and the bytes from one place on come to.
+-- Two strings compared byte by byte, with the differences gathered in a number.
 use mathlib.Core.Path.{◌≡◌, refl, sym, ap, ◌∙◌}
 use mathlib.Core.Bool.{Bool, true, false, ◌&&◌, and_assoc, and-true, and-false}
 use mathlib.Core.List.{List, [], ◌∷◌}
-use Prim.Native.Nat.{ℕ, suc, ◌+◌, ◌<◌}
-use native.Mathlib.Numerals.{add-one}
+use Prim.Native.Nat.{ℕ, suc}
 use native.Mathlib.Omega.{arith}
 use borrow.Author.Tests.{eq-eqb, ne_eqb, eqb-true, eqb-false}
 use lib.Bits.{bit_or, bit_xor, and_le_l, and_le_r, or_add_and, xor_add_and, xor_self}
 use lib.Dec.{eqb}
-use lib.ListN.{length, drop, get_or}
-use lib.Seq.{drop-cons, drop-length}
+use lib.ListN.{length}
+use Rattle.std.proofs.lemmas.List.{nil_from_length}
 use Rattle.calls.specs.Calls.{same_bytes}
 
-pub other_length : (a b : List ℕ) → (length a ≡ length b → ⊥) → same_bytes a b ≡ false
+pub other_length : (a b : List ℕ) → (length a ≡ length b → ⊥) → false ≡ same_bytes a b
 unfolding same_bytes
 other_length [] [] h = absurd (h refl)
 other_length [] (y ∷ b) h = refl
 other_length (x ∷ a) [] h = refl
-other_length (x ∷ a) (y ∷ b) h = rw (other_length a b (λ e. h (ap suc e))) (and-false (eqb x y))
-
--- ## One more byte
+other_length (x ∷ a) (y ∷ b) h = rw (← (other_length a b (λ e. h (ap suc e)))) (sym (and-false (eqb x y)))
 
 no_difference : (d x y : ℕ) → bit_or d (bit_xor x y) ≡ 0 → (d ≡ 0) × (x ≡ y)
 no_difference d x y e =
@@ -36,15 +33,13 @@ gathered d x y = by (eqb d 0) (eqb x y) refl refl
     by true false p q = ne_eqb _ 0 (λ e. eqb-false x y q (no_difference d x y e).1)
     by false u p q = ne_eqb _ 0 (λ e. eqb-false d 0 p (no_difference d x y e).0)
 
-module _ (a b : List ℕ) (d i : ℕ) where
-  pub compare_more : i < length a → i < length b
-      → (eqb (bit_or d (bit_xor (get_or a i 0) (get_or b i 0))) 0 && same_bytes (drop (i + 1) a) (drop (i + 1) b)) ≡ (eqb d 0 && same_bytes (drop i a) (drop i b))
-  unfolding same_bytes
-  compare_more h g =
-      rw (add-one, drop-cons a i 0 h, drop-cons b i 0 g, gathered d (get_or a i 0) (get_or b i 0))
-      (and_assoc (eqb d 0) (eqb (get_or a i 0) (get_or b i 0)) (same_bytes (drop (suc i) a) (drop (suc i) b)))
+-- ## The bytes still to come: the first two looked at, and none left
 
-  pub compare_all : i ≡ length a → i ≡ length b → eqb d 0 ≡ (eqb d 0 && same_bytes (drop i a) (drop i b))
+module _ (d : ℕ) (a b : List ℕ) where
+  pub compare_more : (x y : ℕ) {s t : List ℕ} → s ≡ x ∷ a → t ≡ y ∷ b → (eqb (bit_or d (bit_xor x y)) 0 && same_bytes a b) ≡ (eqb d 0 && same_bytes s t)
   unfolding same_bytes
-  compare_all h g =
-      rw (ap (λ (n : ℕ). drop n a) h ∙ drop-length a, ap (λ (n : ℕ). drop n b) g ∙ drop-length b) (sym (and-true (eqb d 0)))
+  compare_more x y h g = rw (h, g, gathered d x y) (and_assoc (eqb d 0) (eqb x y) (same_bytes a b))
+
+  pub compare_all : length a ≡ 0 → length b ≡ 0 → eqb d 0 ≡ (eqb d 0 && same_bytes a b)
+  unfolding same_bytes
+  compare_all h g = rw (nil_from_length a h, nil_from_length b g) (sym (and-true (eqb d 0)))

@@ -12,10 +12,8 @@ pub fn same_bytes(a: &[u8], b: &[u8]) -> bool
         return false;
     }
     let mut difference = 0;
-    let mut i = 0;
-    while i < a.len() {
-        difference |= a[i] ^ b[i];
-        i += 1;
+    for (x, y) in a.iter().zip(b) {
+        difference |= x ^ y;
     }
     difference == 0
 }

@@ -13,7 +13,8 @@ use Rattle.tape_writer.specs.Clauses.{writer_of, wrapped_writer, wrapped_writer_
 use Rattle.tape_writer.specs.Clauses as tape
 use Rattle.demands.specs.Examples.{SessionReplies, WriterReplies, SessionsExist, WritersExist}
 use Rattle.calls.proofs.Made.{calls_made}
-use Rattle.demands.proofs.Standing.{fresh_clear, call_clear, answer_of, answers, writer_call_clear, writer_for, writer_stands}
+use Rattle.demands.proofs.InCode.{answer_for, wrapped_told, call_told, writer_call_told}
+use Rattle.demands.proofs.Standing.{fresh_clear, call_clear, writer_call_clear, writer_for, writer_stands}
 
 -- ## Sessions
 
@@ -27,8 +28,8 @@ unfolding session_outcome wrapped_outcome
 session_replies s c =
     let o : Outcome Machine Work = wrapped_outcome (machineCall (machine_of s) c) in
     let next = session_stands o.next (wrapped_clear (left_unchanged (machineCall (machine_of s) c).answer) _ (call_clear (machine_of s) c (session_clear s))) in
-    let answer = answers o.answer in
-    (record { answer = answer_of o.answer; session = session_for o.next }, o.out, λ i. record { next = next i; answer = answer i; out = o.out })
+    let answer = answer_for o.answer (wrapped_told _ (call_told (machine_of s) c)) in
+    (record { answer = answer.0; session = session_for o.next }, o.out, λ i. record { next = next i; answer = answer.1 i; out = o.out })
 
 pub sessions_exist : SessionsExist
 unfolding fresh
@@ -48,8 +49,8 @@ unfolding tape.writer_outcome writer_of wrapped_writer_outcome
 writer_replies w c =
     let o : Outcome PlainWriter Work = wrapped_writer_outcome (writer_call (writer_of w) c) in
     let next = writer_stands o.next (wrapped_writer_clear (is_refused (writer_call (writer_of w) c).answer) _ (writer_call_clear (writer_of w) c (session_clear w.session))) in
-    let answer = answers o.answer in
-    (record { answer = answer_of o.answer; writer = writer_for o.next }, o.out, λ i. record { next = next i; answer = answer i; out = o.out })
+    let answer = answer_for o.answer (wrapped_told _ (writer_call_told (writer_of w) c)) in
+    (record { answer = answer.0; writer = writer_for o.next }, o.out, λ i. record { next = next i; answer = answer.1 i; out = o.out })
 
 pub writers_exist : WritersExist
 unfolding fresh_writer fresh

@@ -1,6 +1,6 @@
 -- Lists of calls for C come to what the machine and the plain writer do, from what is seen of each call.
 use mathlib.Core.Path.{◌≡◌, refl, sym, ap, ◌∙◌}
-use mathlib.Core.Bool.{Bool, true, false}
+use mathlib.Core.Bool.{Bool, true, false, false≢true}
 use mathlib.Core.List.{List, [], ◌∷◌}
 use Prim.Native.Nat.{ℕ}
 use native.Mathlib.Omega.{arith}
@@ -80,21 +80,18 @@ pub record Passes {M : Type 0} (m : M) (out : List ℕ) (o : Outcome M Work) : T
   pub left : left_unchanged o.answer ≡ true → o.out ≡ out
   pub told : Told o.answer
 
-false-true : ◌≡◌ {A = Bool} false true → ⊥
-false-true e = let z : ◌≡◌ {A = ℕ} 0 1 = ap (λ (b : Bool). 1 if b else 0) e in omega arith
-
 unchanged : {M : Type 0} (n : ℕ) (m : M) (out : List ℕ) → (n ≡ 0 → ⊥) → Passes m out (refused_with n m out)
 unfolding refused_with
 unchanged n m out h = record { stays = λ e. refl; left = λ e. refl; told = told_refused n h }
 
 did : {M : Type 0} (m next : M) (w : Work) (before out : List ℕ) → Passes m before (record { next = next; answer = done w; out = out })
 unfolding left_unchanged
-did m next w before out = record { stays = λ e. absurd (false-true e); left = λ e. absurd (false-true e); told = told-done w }
+did m next w before out = record { stays = λ e. absurd (false≢true e); left = λ e. absurd (false≢true e); told = told-done w }
 
 judged : (b : Bool) (m : Machine) (before : List ℕ) → Passes m before (record { next = closed m; answer = verdict b (closed m); out = [] })
 unfolding verdict answered left_unchanged
 judged true m before = did m (closed m) _ before []
-judged false m before = record { stays = λ e. absurd (false-true e); left = λ e. absurd (false-true e); told = told_refused 7 (λ e. omega arith) }
+judged false m before = record { stays = λ e. absurd (false≢true e); left = λ e. absurd (false≢true e); told = told_refused 7 (λ e. omega arith) }
 
 worked : (m : Machine) (c : Call) → Passes m (output_of c) (work m c)
 unfolding work wrote answered

@@ -7,7 +7,7 @@ use Prim.Native.Nat.{ℕ, ◌+◌, ◌*◌, ◌≤◌}
 use lib.ListN.{length, take}
 use lib.Seq.{take_at}
 use borrow.Author.Tests.{le-ltb}
-use Rattle.calls.specs.Calls.{Reply, refused, done, written_over, result_of, written_reply}
+use Rattle.calls.specs.Calls.{Reply, refused, done, written_over, result_of, as_reply}
 use Rattle.calls.specs.Lists.{entries, AllAccepted}
 use Rattle.calls.proofs.Results.{result-written}
 use Rattle.acorn_model.specs.Machine.{key_length}
@@ -60,9 +60,9 @@ module _ (tag_length : ℕ) (key nonce «data» : List ℕ) where
             let x = (message_examples tag_length key nonce «data»).opens s out in
             let d = (message_demand tag_length w.tag-most key nonce «data»).opening s text out x.1 x.0 hs ht w room x.2 c T p in
             let number = (refusal_demand.opening tag_length key nonce «data» s out x.1 x.0 x.2).number in
-            let told : r ≡ written_numbers (written_reply x.0) = seen.0 ∙ (λ i. written_numbers (x.2 i).answer) in
+            let told : r ≡ written_numbers (as_reply x.0) = seen.0 ∙ (λ i. written_numbers (x.2 i).answer) in
             let left : after ≡ x.1 = seen.1 ∙ (λ i. (x.2 i).out) in (
-              λ a. d.0 (told-done (open_refusal tag_length key nonce «data» s out) (written_reply x.0) (length text) number (sym told ∙ a.0), sym left ∙ a.1),
+              λ a. d.0 (told-done (open_refusal tag_length key nonce «data» s out) (as_reply x.0) (length text) number (sym told ∙ a.0), sym left ∙ a.1),
               λ b. let e = d.1 b in (told ∙ ap written_numbers e.0, left ∙ e.1),
             );
         seven = λ s out after r seen least most k n d t l room m.

@@ -5,6 +5,7 @@ pub mod Refusals
 pub mod Messages
 pub mod Tied
 pub mod TiedExports
+pub mod InCode
 pub mod Standing
 pub mod Exist
 pub mod SessionFacts

@@ -5,7 +5,7 @@ use mathlib.Core.List.{List, ◌++◌}
 use Prim.Native.Nat.{ℕ, ◌≤◌}
 use lib.ListN.{length}
 use Rattle.acorn_model.specs.Bits.{Bits, bits_in, bytes}
-use Rattle.calls.specs.Calls.{◌if◌else◌, done, refused, unless_refused, written_reply, written_over, result_of}
+use Rattle.calls.specs.Calls.{◌if◌else◌, done, refused, unless_refused, written_over, result_of, as_reply}
 use Rattle.acorn_model.specs.Paper.{ciphertext, tag_of_length, decrypted, new_tag_of_length}
 use Rattle.acorn_model.specs.Message.{sealed_with, tag_matches_with, opened_with, tag_refusal, open_refusal, open_message}
 use Rattle.acorn_model.specs.Laws.{ByPaper}
@@ -37,14 +37,14 @@ module _ (tag_length : ℕ) (fits : tag_length ≤ full_tag_length) (key nonce �
         openable = λ cipher. (bits_in (decrypted key nonce «data» cipher), bits_in (new_tag_of_length tag_length key nonce «data» cipher), (paper_computed tag_length key nonce «data» fits).opening cipher);
         opening = λ s text out after r hs ht w room h c T p.
             let e = (message_laws tag_length key nonce «data»).opens_exactly s text out hs ht in (
-              λ (a : (written_reply r ≡ done (length text)) × (after ≡ written_over text out)).
+              λ (a : (as_reply r ≡ done (length text)) × (after ≡ written_over text out)).
                   (e.0 (h ∙ (λ i. record { answer = a.0 i; out = a.1 i }))).2 ∙ sym (by_paper text c T p),
               λ (b : s ≡ bytes (length text) c ++ bytes tag_length T).
                   let g = sym h ∙ e.1 (w, room, b ∙ by_paper text c T p) in (λ i. (g i).answer, λ i. (g i).out),
             );
         seven = λ s out after r h least most k n d t l room m.
             let o : Openable tag_length key nonce «data» s out = record { tag-least = least; tag-most = most; key_size = k; nonce_size = n; data_limit = d; tag_there = t; text_limit = l; room = room } in
-            let e : written_reply r ≡ refused 7 = (λ i. (sym h i).answer) ∙ answered_7 s out (open_passed tag_length key nonce «data» s out o) m in
+            let e : as_reply r ≡ refused 7 = (λ i. (sym h i).answer) ∙ answered_7 s out (open_passed tag_length key nonce «data» s out o) m in
             (e, (λ i. (sym h i).out) ∙ (message_laws tag_length key nonce «data»).open_refused 7 s out ((λ i. (h i).answer) ∙ e));
       }
 

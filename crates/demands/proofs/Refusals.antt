@@ -8,17 +8,19 @@ use lib.Dec.{leb, ltb, eqb}
 use lib.ListN.{length, take, drop, length-drop}
 use lib.Seq.{length-take-le}
 use borrow.Author.Tests.{leb-false, eq-eqb, ne_eqb, le-ltb}
-use Rattle.calls.specs.Calls.{◌if◌else◌, Reply, refused, done, Work, Outcome, accepted, left_unchanged, same_bytes, answer_reply, written_reply, unless_refused, refused_with, is_refused}
+use Rattle.std.proofs.Common.{Result}
+use Rattle.calls.specs.declared.Refusal.{Refusal}
+use Rattle.calls.specs.Calls.{◌if◌else◌, Reply, refused, done, Work, Outcome, accepted, left_unchanged, same_bytes, answer_reply, unless_refused, refused_with, is_refused, as_reply}
 use Rattle.acorn_model.specs.Stretches.{tag_bytes}
 use Rattle.acorn_model.specs.declared.Phase.TheVariants.{Closed}
 use Rattle.acorn_model.specs.Machine.{Machine, Call, begin, data_call, seal_text, check_text, seal_close, check_close, output_of, key_length, refusal, wrote, answered, verdict, text_ended, closed, enter, work, call, work as machineWork}
 use Rattle.acorn_model.specs.Message.{tag_matches}
 use Rattle.acorn_model.specs.Message as message
-use Rattle.tape_model.specs.declared.OpenedTape.{OpenedTape}
 use Rattle.tape_model.specs.declared.WriterPhase.TheVariants.{Open}
 use Rattle.tape_model.specs.declared.Ticket.{Ticket}
+use Rattle.tape_model.specs.declared.Totals.{Totals}
 use Rattle.tape_model.specs.Ticket.{ticket_length, write_rule, pack_ticket_into, unpack_ticket_refusal, unpack_ticket, pack_head_into, unpack_head_refusal, unpack_head}
-use Rattle.tape_model.specs.Tape.{ticket_limit, nonce_of, is_tickets_length, is_tape_length, head_bytes, sealed_bytes, ticket_count, open_tape_refusal, open_tape, opened_reply}
+use Rattle.tape_model.specs.Tape.{ticket_limit, nonce_of, is_tickets_length, is_tape_length, head_bytes, sealed_bytes, ticket_count, open_tape_refusal, open_tape}
 use Rattle.tape_model.specs.Writer.{PlainWriter, WriterCall, start, add, finish, on_answer, passed_on, started, writer_call}
 use Rattle.tape_model.specs.Writer as plain
 use Rattle.tape_model.specs.Reader as model
@@ -216,10 +218,10 @@ tape_seven key tape out k l h room m =
     (tag_matches key (nonce_of (head_bytes tape)) (head_bytes tape) (sealed_bytes tape)) _ (rw (eq-eqb (length key) key_length k) l) h
     (le-ltb (length out) (ticket_length * ticket_count tape) room) m
 
-opening_refusals : (key tape out after : List ℕ) (r : OpenedTape) (h : OpensTape key tape out r after) → OpeningRefusals key tape out after r h
+opening_refusals : (key tape out after : List ℕ) (r : Result Totals Refusal) (h : OpensTape key tape out r after) → OpeningRefusals key tape out after r h
 unfolding open_tape
 opening_refusals key tape out after r h =
-    let x = refused_as (open_tape_refusal key tape out) _ _ out (opened_reply r) after h in
+    let x = refused_as (open_tape_refusal key tape out) _ _ out (as_reply r) after h in
     record {
       number = x.number;
       unchanged = x.unchanged;
@@ -277,18 +279,18 @@ refusal_demand =
       writers = writer_refusals;
       ticket_5001 = λ es w l o n t out after r v called.
           (writer_refusals w (add t out) r after called).number 4 (full (writer_of w) t out o ((writer_demand es w l).tickets.0 ∙ n) v);
-      sealing = λ n key nonce d text out after r h. refused_as _ _ _ out (written_reply r) after h;
-      opening = λ n key nonce d s out after r h. refused_as _ _ _ out (written_reply r) after h;
+      sealing = λ n key nonce d text out after r h. refused_as _ _ _ out (as_reply r) after h;
+      opening = λ n key nonce d s out after r h. refused_as _ _ _ out (as_reply r) after h;
       openings = opening_refusals;
       message_sevens = λ n n' key key' nonce nonce' d d' s s' out after after' r r' h h'.
-          alike (refused_as _ _ _ out (written_reply r) after h) (refused_as _ _ _ out (written_reply r') after' h');
+          alike (refused_as _ _ _ out (as_reply r) after h) (refused_as _ _ _ out (as_reply r') after' h');
       tape_sevens = λ key key' tape tape' out after after' r r' h h'.
           let o = opening_refusals key tape out after r h in
           let o' = opening_refusals key' tape' out after' r' h' in
           alike (record { number = o.number; unchanged = o.unchanged }) (record { number = o'.number; unchanged = o'.unchanged });
       readers = reader_refusals;
-      packing = λ t out after r h. refused_as _ _ _ out (written_reply r) after h;
-      packing_heads = λ h out after r e. refused_as _ _ _ out (written_reply r) after e;
+      packing = λ t out after r h. refused_as _ _ _ out (as_reply r) after h;
+      packing_heads = λ h out after r e. refused_as _ _ _ out (as_reply r) after e;
       unpacking = λ string r e. subst (AnsweredBy (unpack_ticket_refusal string)) (sym e) (reply-by (unpack_ticket_refusal string) _);
       unpacking_heads = λ string r e. subst (AnsweredBy (unpack_head_refusal string)) (sym e) (reply-by (unpack_head_refusal string) _);
     }

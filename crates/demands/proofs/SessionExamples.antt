@@ -8,6 +8,7 @@ use native.Mathlib.Omega.{arith}
 use lib.Dec.{ltb}
 use lib.ListN.{length, length-append, length-replicate, get_or, replicate}
 use borrow.Author.Tests.{le-ltb, eq-eqb}
+use Rattle.std.proofs.lemmas.List.{get_or-replicate}
 use Rattle.acorn_model.specs.declared.Kind.{Kind}
 use Rattle.acorn_model.specs.declared.Kind.TheVariants.{Sealing, Checking}
 use Rattle.calls.specs.Calls.{AreBytes, ◌if◌else◌, Reply, refused, done, Work, Outcome, accepted, same_bytes, unless_refused, refused_with}
@@ -292,17 +293,13 @@ all_bytes (suc n) x h (suc p) = all_bytes n x h p
 another : (n : ℕ) → 0 < n → (T : List ℕ) → (tag : List ℕ) × AreBytes tag × (length tag ≡ n) × (tag ≡ T → ⊥)
 another n h T = by (same_bytes (replicate n 0) T) refl
   where
-    first_of : (k x : ℕ) → 0 < k → get_or (replicate k x) 0 0 ≡ x
-    first_of zero x l = absurd (omega arith)
-    first_of (suc k) x l = refl
-
     by : (b : Bool) → same_bytes (replicate n 0) T ≡ b → (tag : List ℕ) × AreBytes tag × (length tag ≡ n) × (tag ≡ T → ⊥)
     by true e = (
       replicate n 1,
       all_bytes n 1 (omega arith),
       length-replicate n 1,
       λ (f : replicate n 1 ≡ T).
-          let z : ◌≡◌ {A = ℕ} 1 0 = sym (first_of n 1 h) ∙ ap (λ (l : List ℕ). get_or l 0 0) (f ∙ sym (same-bytes-true (replicate n 0) T e)) ∙ first_of n 0 h in
+          let z : ◌≡◌ {A = ℕ} 1 0 = sym (get_or-replicate n 0 1 0 h) ∙ ap (λ (l : List ℕ). get_or l 0 0) (f ∙ sym (same-bytes-true (replicate n 0) T e)) ∙ get_or-replicate n 0 0 0 h in
           omega arith,
     )
     by false e = (

@@ -3,9 +3,7 @@ use mathlib.Core.Path.{◌≡◌, refl, ◌∙◌}
 use mathlib.Core.Bool.{Bool, true, false}
 use mathlib.Core.List.{List}
 use Prim.Native.Nat.{ℕ}
-use Rattle.calls.specs.declared.Answer.{Answer}
-use Rattle.calls.specs.declared.Answer.TheVariants.{Refused, Done}
-use Rattle.calls.specs.Calls.{◌if◌else◌, Reply, refused, done, Work, Outcome, answer_reply, refused_with}
+use Rattle.calls.specs.Calls.{◌if◌else◌, Reply, refused, done, Work, Outcome, refused_with}
 use Rattle.acorn_model.specs.declared.Kind.{Kind}
 use Rattle.acorn_model.specs.Stretches.{Stretch, inputs, through, start, data_piece, data_end, text_end, final}
 use Rattle.acorn_model.specs.Machine.{Machine, Call, fresh, begin, data_call, seal_text, check_text, seal_close, check_close, output_of, is_data, fixes_right, refusal, run_through, enter, cleared, count_data, count_text, begun, data_taken, data_ended, text_taken, text_ended, closed, wrote, work, call}
@@ -53,17 +51,6 @@ call_clear m c h =
 pub fresh_clear : (kind : Kind) → Clear (fresh kind)
 unfolding fresh
 fresh_clear kind = record { bits = λ q. refl; tag_length = refl }
-
--- ## The answer that stands for a reply
-
-pub answer_of : Reply Work → Answer
-answer_of (refused n) = Refused n
-answer_of (done w) = Done w.bytes w.steps
-
-pub answers : (a : Reply Work) → answer_reply (answer_of a) ≡ a
-unfolding answer_reply answer_of
-answers (refused n) = refl
-answers (done w) = refl
 
 -- ## Writers
 

@@ -5,6 +5,7 @@ use mathlib.Core.Bool.{true}
 use mathlib.Core.List.{List}
 use Prim.Native.Nat.{ℕ, ◌≤◌}
 use lib.ListN.{length}
+use Rattle.calls.specs.Calls.{as_reply}
 use Rattle.calls.specs.Lists.{entries, AllAccepted}
 use Rattle.acorn_model.specs.Machine.{key_length}
 use Rattle.tape_model.specs.declared.Ticket.{Ticket}
@@ -33,7 +34,7 @@ comes_back key head ts written k h v n e =
           let p = sym o ∙ ap (λ (t : List ℕ). open_tape key t out) e ∙ (tapes_come_back key head ts k h v n).opens out fits in
           (λ i. (p i).answer, λ i. (p i).out);
       read = λ out after r fits o bytes here.
-          (reading_laws bytes).tape key head ts k h v n out after r fits (subst (λ (t : List ℕ). OpensTape key t out r after) e o) here;
+          (reading_laws bytes).tape key head ts k h v n out after (as_reply r) fits (subst (λ (t : List ℕ). OpensTape key t out r after) e o) here;
     }
 
 pub closed_comes_back : ClosedComesBack

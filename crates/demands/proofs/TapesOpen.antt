@@ -1,8 +1,8 @@
 -- Only tapes open, and what opened under an earlier rule opens: the laws of the definitions, by the contract of `open_tape`.
 use mathlib.Core.Path.{sym, ap, ◌∙◌}
 use Rattle.calls.specs.Calls.{Result}
+use Rattle.tape_model.specs.declared.Totals.{Totals}
 use Rattle.tape_model.specs.Ticket.{Rule}
-use Rattle.tape_model.specs.Tape.{Totals}
 use Rattle.tape_model.specs.EarlierRules.{base_rule, one_form_rule, StillOpen}
 use Rattle.tape_model.proofs.Exact.{tapes_open_exactly}
 use Rattle.tape_model.proofs.EarlierRules.{earlier_rule_laws}

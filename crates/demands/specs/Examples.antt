@@ -1,17 +1,17 @@
 -- That the demands speak of something: every call and every list of calls can be made, on sessions and on writers; and there are lists that end,
 -- and calls that are refused.
-use Rattle.std.specs.Prelude.{◌≡◌, List, [], ◌∷◌, ◌++◌, map, ℕ, ◌≤◌, ◌<◌, length, replicate}
+use Rattle.std.specs.Prelude.{◌≡◌, List, [], ◌∷◌, ◌++◌, map, ℕ, ◌≤◌, ◌<◌, length, replicate, Result}
 use Rattle.acorn_model.specs.declared.Kind.{Kind}
 use Rattle.acorn_model.specs.declared.Kind.TheVariants.{Sealing, Checking}
-use Rattle.calls.specs.declared.Written.{Written}
-use Rattle.calls.specs.Calls.{AreBytes, Reply, refused, done, Work, written_reply}
+use Rattle.calls.specs.declared.Refusal.{Refusal}
+use Rattle.calls.specs.Calls.{AreBytes, Reply, refused, done, Work, as_reply}
 use Rattle.acorn_model.specs.Stretches.{full_tag_length}
 use Rattle.acorn_model.specs.Paper.{new_tag, new_tag_of_length}
 use Rattle.calls.specs.Lists.{Entry, calls_of, AllAccepted}
 use Rattle.acorn_model.specs.Machine.{least_tag_length, Machine, Call, begin, data_call, seal_text, check_text, seal_close, check_close, key_length}
 use Rattle.acorn_model.specs.Laws.{WithinLimits}
 use Rattle.acorn_model.specs.Lists.{log_of, Ended, Alike}
-use Rattle.tape_model.specs.declared.OpenedTape.{OpenedTape}
+use Rattle.tape_model.specs.declared.Totals.{Totals}
 use Rattle.tape_model.specs.declared.WriterPhase.TheVariants.{Closed}
 use Rattle.tape_model.specs.Ticket.{ticket_length, head_length, pack_head}
 use Rattle.tape_model.specs.Tape.{tape_tag_length, nonce_of, open_tape}
@@ -160,17 +160,17 @@ pub record WriterExamples : Type 0 where
 -- ## Whole messages
 
 pub record MessageExamples (tag_length : ℕ) (key nonce «data» : List ℕ) : Type 0 where
-  pub seals : (text out : List ℕ) → (r : Written) × (after : List ℕ) × Seals tag_length key nonce «data» text out r after
-  pub opens : (sealed_bytes out : List ℕ) → (r : Written) × (after : List ℕ) × OpensTo tag_length key nonce «data» sealed_bytes out r after
+  pub seals : (text out : List ℕ) → (r : Result ℕ Refusal) × (after : List ℕ) × Seals tag_length key nonce «data» text out r after
+  pub opens : (sealed_bytes out : List ℕ) → (r : Result ℕ Refusal) × (after : List ℕ) × OpensTo tag_length key nonce «data» sealed_bytes out r after
   -- within the limits, as many bytes as a tag has that are not the tag of an empty text are answered with 7
   pub seven : (tag out : List ℕ) → WithinLimits tag_length key nonce «data» [] → length tag ≡ tag_length → (tag ≡ new_tag_of_length tag_length key nonce «data» [] → ⊥)
-      → (r : Written) × (after : List ℕ) × OpensTo tag_length key nonce «data» tag out r after × (written_reply r ≡ refused 7)
+      → (r : Result ℕ Refusal) × (after : List ℕ) × OpensTo tag_length key nonce «data» tag out r after × (as_reply r ≡ refused 7)
 
 -- ## Tapes
 
 -- no opening of a tape is without an answer
 abbrev pub OpeningReplies : Type 0
-OpeningReplies = (key tape out : List ℕ) → (r : OpenedTape) × (after : List ℕ) × OpensTape key tape out r after
+OpeningReplies = (key tape out : List ℕ) → (r : Result Totals Refusal) × (after : List ℕ) × OpensTape key tape out r after
 
 -- 16 bytes behind a head that are not the tag of a tape of no tickets are answered with 7
 abbrev pub TapeSeven : Type 0

@@ -1,7 +1,7 @@
 -- Demand 1: which number a call ends with, and what a refused call leaves.
-use Rattle.std.specs.Prelude.{◌≡◌, Bool, true, false, not, List, ◌↔◌, ℕ, suc, ◌*◌, ◌/◌, ◌≤◌, leb, length, take, drop}
-use Rattle.calls.specs.declared.Written.{Written}
-use Rattle.calls.specs.Calls.{Work, ◌if◌else◌, Reply, refused, done, accepted, unless_refused, same_bytes, answer_reply, written_reply, is_refused}
+use Rattle.std.specs.Prelude.{◌≡◌, Bool, true, false, not, List, ◌↔◌, ℕ, suc, ◌*◌, ◌/◌, ◌≤◌, leb, length, take, drop, Result}
+use Rattle.calls.specs.declared.Refusal.{Refusal}
+use Rattle.calls.specs.Calls.{Work, ◌if◌else◌, Reply, refused, done, accepted, unless_refused, same_bytes, answer_reply, is_refused, as_reply}
 use Rattle.acorn_model.specs.Stretches.{tag_bytes}
 use Rattle.calls.specs.Lists.{Entry}
 use Rattle.acorn_model.specs.Machine.{Machine, Call, begin, data_call, seal_text, check_text, seal_close, check_close, output_of, key_length, refusal, text_ended}
@@ -9,12 +9,10 @@ use Rattle.acorn_model.specs.Lists.{Ended}
 use Rattle.acorn_model.specs.Message as message
 use Rattle.tape_model.specs.declared.Ticket.{Ticket}
 use Rattle.tape_model.specs.declared.Head.{Head}
-use Rattle.tape_model.specs.declared.UnpackedTicket.{UnpackedTicket}
-use Rattle.tape_model.specs.declared.UnpackedHead.{UnpackedHead}
-use Rattle.tape_model.specs.declared.OpenedTape.{OpenedTape}
+use Rattle.tape_model.specs.declared.Totals.{Totals}
 use Rattle.tape_model.specs.declared.WriterPhase.TheVariants.{Open}
-use Rattle.tape_model.specs.Ticket.{ticket_length, write_rule, unpack_ticket, ticket_reply, unpack_head, head_reply, pack_ticket_refusal, unpack_ticket_refusal, pack_head_refusal, unpack_head_refusal}
-use Rattle.tape_model.specs.Tape.{ticket_limit, nonce_of, is_tickets_length, is_tape_length, head_bytes, sealed_bytes, ticket_count, open_tape_refusal, opened_reply}
+use Rattle.tape_model.specs.Ticket.{ticket_length, write_rule, unpack_ticket, unpack_head, pack_ticket_refusal, unpack_ticket_refusal, pack_head_refusal, unpack_head_refusal}
+use Rattle.tape_model.specs.Tape.{ticket_limit, nonce_of, is_tickets_length, is_tape_length, head_bytes, sealed_bytes, ticket_count, open_tape_refusal}
 use Rattle.tape_model.specs.Writer.{WriterCall, add}
 use Rattle.tape_model.specs.Writer as plain
 use Rattle.tape_model.specs.WriterLists.{writer_log}
@@ -83,15 +81,15 @@ module _ (w : Writer) (c : WriterCall) (r : WriterReply) (out : List ℕ) (calle
 
 -- ## Tapes, tickets and heads
 
-module _ (key tape out after : List ℕ) (r : OpenedTape) (opened : OpensTape key tape out r after) where
+module _ (key tape out after : List ℕ) (r : Result Totals Refusal) (opened : OpensTape key tape out r after) where
   pub record OpeningRefusals : Type 0 where
-    pub number : AnsweredBy (open_tape_refusal key tape out) (opened_reply r)
+    pub number : AnsweredBy (open_tape_refusal key tape out) (as_reply r)
     -- a refused opening leaves its output as it was
-    pub unchanged : (n : ℕ) → opened_reply r ≡ refused n → after ≡ out
+    pub unchanged : (n : ℕ) → as_reply r ≡ refused n → after ≡ out
     -- where the tag differs and no smaller number applies, the answer is 7
     pub seven : length key ≡ key_length → is_tape_length (length tape) ≡ true → is_refused (unpack_head (head_bytes tape)) ≡ false
         → ticket_length * ticket_count tape ≤ length out → message.tag_matches key (nonce_of (head_bytes tape)) (head_bytes tape) (sealed_bytes tape) ≡ false
-        → opened_reply r ≡ refused 7
+        → as_reply r ≡ refused 7
 
 -- ## Readers
 
@@ -118,27 +116,27 @@ pub record RefusalDemand : Type 0 where
       → (t : Ticket) (out after : List ℕ) (r : WriterReply) → write_rule t ≡ true → WriterCalled w (add t out) r after
       → answer_reply r.answer ≡ refused 5
   -- whole messages
-  pub sealing : (tag_length : ℕ) (key nonce «data» text out after : List ℕ) (r : Written) → Seals tag_length key nonce «data» text out r after
-      → RefusedBy (message.seal_refusal tag_length key nonce «data» text out) (written_reply r) out after
-  pub opening : (tag_length : ℕ) (key nonce «data» sealed_bytes out after : List ℕ) (r : Written) → OpensTo tag_length key nonce «data» sealed_bytes out r after
-      → RefusedBy (message.open_refusal tag_length key nonce «data» sealed_bytes out) (written_reply r) out after
+  pub sealing : (tag_length : ℕ) (key nonce «data» text out after : List ℕ) (r : Result ℕ Refusal) → Seals tag_length key nonce «data» text out r after
+      → RefusedBy (message.seal_refusal tag_length key nonce «data» text out) (as_reply r) out after
+  pub opening : (tag_length : ℕ) (key nonce «data» sealed_bytes out after : List ℕ) (r : Result ℕ Refusal) → OpensTo tag_length key nonce «data» sealed_bytes out r after
+      → RefusedBy (message.open_refusal tag_length key nonce «data» sealed_bytes out) (as_reply r) out after
   -- tapes
-  pub openings : (key tape out after : List ℕ) (r : OpenedTape) (opened : OpensTape key tape out r after) → OpeningRefusals key tape out after r opened
+  pub openings : (key tape out after : List ℕ) (r : Result Totals Refusal) (opened : OpensTape key tape out r after) → OpeningRefusals key tape out after r opened
   -- two openings for which 7 is the number, with equal outputs before, are answered alike and leave equal outputs, whatever else they were given
   -- (so neither 9 nor a smaller number stops them; the lengths of their tags may differ)
-  pub message_sevens : (tag_length tag_length' : ℕ) (key key' nonce nonce' «data» data' sealed_bytes sealed_bytes' out after after' : List ℕ) (r r' : Written)
+  pub message_sevens : (tag_length tag_length' : ℕ) (key key' nonce nonce' «data» data' sealed_bytes sealed_bytes' out after after' : List ℕ) (r r' : Result ℕ Refusal)
       → OpensTo tag_length key nonce «data» sealed_bytes out r after → OpensTo tag_length' key' nonce' data' sealed_bytes' out r' after'
       → message.open_refusal tag_length key nonce «data» sealed_bytes out ≡ 7 → message.open_refusal tag_length' key' nonce' data' sealed_bytes' out ≡ 7
-      → (written_reply r ≡ written_reply r') × (after ≡ after')
-  pub tape_sevens : (key key' tape tape' out after after' : List ℕ) (r r' : OpenedTape) → OpensTape key tape out r after → OpensTape key' tape' out r' after'
-      → open_tape_refusal key tape out ≡ 7 → open_tape_refusal key' tape' out ≡ 7 → (opened_reply r ≡ opened_reply r') × (after ≡ after')
+      → (as_reply r ≡ as_reply r') × (after ≡ after')
+  pub tape_sevens : (key key' tape tape' out after after' : List ℕ) (r r' : Result Totals Refusal) → OpensTape key tape out r after → OpensTape key' tape' out r' after'
+      → open_tape_refusal key tape out ≡ 7 → open_tape_refusal key' tape' out ≡ 7 → (as_reply r ≡ as_reply r') × (after ≡ after')
   pub readers : (r : Reader) (h : ReaderReply) (called : NextCalled r h) → ReaderRefusals r h called
   -- tickets and heads by themselves
-  pub packing : (t : Ticket) (out after : List ℕ) (r : Written) → PacksTicket t out r after
-      → RefusedBy (pack_ticket_refusal t out) (written_reply r) out after
-  pub packing_heads : (h : Head) (out after : List ℕ) (r : Written) → PacksHead h out r after
-      → RefusedBy (pack_head_refusal h out) (written_reply r) out after
-  pub unpacking : (string : List ℕ) (r : UnpackedTicket) → UnpacksTicket string r
-      → AnsweredBy (unpack_ticket_refusal string) (ticket_reply r)
-  pub unpacking_heads : (string : List ℕ) (r : UnpackedHead) → UnpacksHead string r
-      → AnsweredBy (unpack_head_refusal string) (head_reply r)
+  pub packing : (t : Ticket) (out after : List ℕ) (r : Result ℕ Refusal) → PacksTicket t out r after
+      → RefusedBy (pack_ticket_refusal t out) (as_reply r) out after
+  pub packing_heads : (h : Head) (out after : List ℕ) (r : Result ℕ Refusal) → PacksHead h out r after
+      → RefusedBy (pack_head_refusal h out) (as_reply r) out after
+  pub unpacking : (string : List ℕ) (r : Result Ticket Refusal) → UnpacksTicket string r
+      → AnsweredBy (unpack_ticket_refusal string) (as_reply r)
+  pub unpacking_heads : (string : List ℕ) (r : Result Head Refusal) → UnpacksHead string r
+      → AnsweredBy (unpack_head_refusal string) (as_reply r)

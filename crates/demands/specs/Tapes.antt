@@ -1,16 +1,17 @@
 -- Demand 2, of tapes: tickets come back, from the writer's calls by way of opening to the reader's calls, each by the contract of its function and
 -- by nothing else.
-use Rattle.std.specs.Prelude.{◌≡◌, true, List, [], ◌∷◌, ℕ, ◌*◌, ◌≤◌, length, take}
+use Rattle.std.specs.Prelude.{◌≡◌, true, List, [], ◌∷◌, ℕ, ◌*◌, ◌≤◌, length, take, Result}
 use Rattle.std.specs.Borrow.{Bor}
-use Rattle.calls.specs.Calls.{Work, done, written_over}
+use Rattle.calls.specs.declared.Refusal.{Refusal}
+use Rattle.calls.specs.Calls.{Work, done, written_over, as_reply}
 use Rattle.calls.specs.Lists.{Entry, calls_of, AllAccepted}
 use Rattle.acorn_model.specs.Machine.{key_length}
 use Rattle.tape_model.specs.declared.Ticket.{Ticket}
 use Rattle.tape_model.specs.declared.Head.{Head}
-use Rattle.tape_model.specs.declared.OpenedTape.{OpenedTape}
+use Rattle.tape_model.specs.declared.Totals.{Totals}
 use Rattle.tape_model.specs.declared.WriterPhase.TheVariants.{Closed}
 use Rattle.tape_model.specs.Ticket.{ticket_length, head_rule}
-use Rattle.tape_model.specs.Tape.{ticket_limit, pack_tickets, tape_of, total_net, opened_reply}
+use Rattle.tape_model.specs.Tape.{ticket_limit, pack_tickets, tape_of, total_net}
 use Rattle.tape_model.specs.Writer.{WriterCall}
 use Rattle.tape_model.specs.WriterLists.{Started, writer_log}
 use Rattle.tape_model.specs.Reader.{at_end}
@@ -26,10 +27,10 @@ use Rattle.tape_opening.specs.Clauses.{OpensTape}
 pub record ComesBack (key : List ℕ) (head : Head) (tickets : List Ticket) (written : List ℕ) : Type 0 where
   pub is-tape : written ≡ tape_of key head tickets
   -- opening it into an output long enough answers the number of tickets and their total net, and writes the plain bytes
-  pub opened : (out after : List ℕ) (r : OpenedTape) → ticket_length * length tickets ≤ length out → OpensTape key written out r after
-      → (opened_reply r ≡ done (record { tickets = length tickets; net = total_net tickets })) × (after ≡ written_over (pack_tickets tickets) out)
+  pub opened : (out after : List ℕ) (r : Result Totals Refusal) → ticket_length * length tickets ≤ length out → OpensTape key written out r after
+      → (as_reply r ≡ done (record { tickets = length tickets; net = total_net tickets })) × (after ≡ written_over (pack_tickets tickets) out)
   -- and a reader over what it wrote hands out these tickets in turn, and then stays at the end
-  pub read : (out after : List ℕ) (r : OpenedTape) → ticket_length * length tickets ≤ length out → OpensTape key written out r after
+  pub read : (out after : List ℕ) (r : Result Totals Refusal) → ticket_length * length tickets ≤ length out → OpensTape key written out r after
       → (bytes : Bor (List ℕ)) → bytes.now ≡ take (ticket_length * length tickets) after → HandsOut bytes tickets (done at_end)
 
 -- every list of calls that closed the writer, refused calls among them: with the key and head of the accepted start and the tickets added

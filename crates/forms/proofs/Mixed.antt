@@ -9,8 +9,9 @@ use Rattle.calls.specs.Calls.{Reply, refused, done}
 use Rattle.acorn_model.specs.Machine.{key_length}
 use Rattle.tape_model.specs.declared.Ticket.{Ticket}
 use Rattle.tape_model.specs.declared.Head.{Head}
+use Rattle.tape_model.specs.declared.Totals.{Totals}
 use Rattle.tape_model.specs.Ticket.{in_form, net, head_rule}
-use Rattle.tape_model.specs.Tape.{ticket_limit, tape_of, total_net, Totals, totals_of}
+use Rattle.tape_model.specs.Tape.{ticket_limit, tape_of, total_net, totals_of}
 use Rattle.tape_model.specs.Listing.{head_line, ticket_line, ticket_lines, line_of_totals, total_line, listed, printed}
 use Rattle.tape_model.specs.Laws.{Valid}
 use Rattle.tape_model.proofs.Tapes.{tapes_come_back}

@@ -1,4 +1,3 @@
-pub mod Seeing
 pub mod Trucks
 pub mod Receptions
 pub mod Forms

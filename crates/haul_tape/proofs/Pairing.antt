@@ -10,7 +10,8 @@ use lib.ListN.{length}
 use Rattle.calls.specs.Calls.{Reply, refused, done}
 use Rattle.tape_model.specs.declared.Ticket.{Ticket}
 use Rattle.tape_model.specs.Tape.{plain_tickets}
-use Rattle.pairing.specs.Pairing.{Paired, paired, times_fall, plain_paired, Outputs, too_short, Counts, counts, pair_tapes}
+use Rattle.pairing.specs.declared.Counts.{Counts}
+use Rattle.pairing.specs.Pairing.{Paired, paired, times_fall, plain_paired, Outputs, too_short, counts, pair_tapes}
 use Rattle.pairing.specs.Laws.{PlainPairedLaws, CallLaws}
 use Rattle.pairing.proofs.Proved.{pairing_laws}
 use Rattle.c_answers.specs.declared.HtPaired.{HtPaired}

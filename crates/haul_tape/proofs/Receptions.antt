@@ -12,7 +12,8 @@ use Rattle.acorn_model.specs.Machine.{key_length}
 use Rattle.tape_model.specs.declared.Ticket.{Ticket}
 use Rattle.tape_model.specs.declared.Head.{Head}
 use Rattle.tape_model.specs.Ticket.{ticket_length, head_rule}
-use Rattle.tape_model.specs.Tape.{ticket_limit, pack_tickets, tape_of, total_net, Totals, open_tape}
+use Rattle.tape_model.specs.declared.Totals.{Totals}
+use Rattle.tape_model.specs.Tape.{ticket_limit, pack_tickets, tape_of, total_net, open_tape}
 use Rattle.tape_model.specs.Laws.{Valid}
 use Rattle.tape_model.proofs.Tapes.{tapes_come_back}
 use Rattle.receptions.specs.Receptions.{Mast, first_mast, second_mast, of_mast, Part, PartingReply, refused_at, not_parted, parting, longer, longer_bytes}
@@ -44,11 +45,11 @@ module _ (first second r : Bor (List ℕ)) (part : IsPart (longer first.now seco
   unfolding part_numbers
   told m e = ap₂ {C = HtReception} (λ (m : Mast) (n : ℕ). record { mast = mast_number m; bytes = n }) (sym e) size
 
-  pub second-told : length first.now < length r.now → record { mast = 2; bytes = length r.now } ≡ part_numbers (longer first.now second.now)
-  second-told l = told second_mast (laws.by_length.1 (omega (arith, l, size)))
+  pub second_told : length first.now < length r.now → record { mast = 2; bytes = length r.now } ≡ part_numbers (longer first.now second.now)
+  second_told l = told second_mast (laws.by_length.1 (omega (arith, l, size)))
 
-  pub first-told : length r.now ≤ length first.now → record { mast = 1; bytes = length r.now } ≡ part_numbers (longer first.now second.now)
-  first-told l = told first_mast (not-second _ (λ s. absurd (omega (arith, l, size, laws.by_length.0 s))))
+  pub first_told : length r.now ≤ length first.now → record { mast = 1; bytes = length r.now } ≡ part_numbers (longer first.now second.now)
+  first_told l = told first_mast (not-second _ (λ s. absurd (omega (arith, l, size, laws.by_length.0 s))))
 
 -- ## The statements
 

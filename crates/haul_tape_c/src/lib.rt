@@ -1,5 +1,5 @@
 // The interface for C: the functions of the crate haul_tape under their names, with the same clauses, as include/haul_tape.h declares them and in
-// its order.
+// its order. (C needs each as an `extern "C"` function under its own name, in a static library: the words below repeat those of haul_tape.)
 #![tactic(auto)]
 
 ghost use Rattle.std.specs.Prelude.{◌≡◌, []};

@@ -9,6 +9,7 @@ use std::io;
 use std::io::Read;
 
 // Reads until buf is full or the input ends, and answers how many bytes it put at the start of buf.
+// A loop of its own: of the library's methods read_exact does not say how much a short input had, and read_to_end fills a Vec, which is on the heap.
 pub fn read_full<R: Read>(input: &mut R, buf: &mut [u8]) -> io::Result<usize>
     ensures bound { ReadsAtMost result buf.new }
     ensures bytes { IfOk result (λ n. Consumes (R.remaining input.old) (R.remaining input.new) (take n buf.new)) }
@@ -18,7 +19,7 @@ pub fn read_full<R: Read>(input: &mut R, buf: &mut [u8]) -> io::Result<usize>
     while done < buf.len() {
         let n = input.read(&mut buf[done..])?;
         if n == 0 {
-            return Ok(done);
+            break;
         }
         done += n;
     }

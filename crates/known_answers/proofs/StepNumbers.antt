@@ -7,12 +7,12 @@ use native.Mathlib.Nat.{mod-lt}
 use native.Mathlib.Omega.{arith}
 use lib.Pow.{pow_pos, high, low}
 use borrow.Author.Tests.{ne_eqb}
+use Rattle.std.proofs.lemmas.Bool.{cases_lt}
 use Rattle.acorn_model.specs.Bits.{Bits, ◌⊕◌, bit}
 use Rattle.calls.specs.Calls.{◌if◌else◌}
 use Rattle.acorn_model.specs.Step.{◌⊕=◌and◌, lfsr_update, keystream_bit, feedback_bit, step, StepInput, step_on, run}
 use Rattle.acorn_model.specs.Laws.{SameState}
 use Rattle.acorn_model.proofs.Numbers.{bit_mod, bit_shift, bit-suc, bit_lowest, half}
-use Rattle.calls.proofs.Choices.{lt_or_ge}
 use Rattle.acorn_model.proofs.States.{same-step_on}
 
 -- ## Numbers joined
@@ -28,7 +28,7 @@ one b = 1 if b else 0
 joined_bits : (lo L a u n : ℕ) (S : Bits) → ((j : ℕ) → j < L → bit a j ≡ S (lo + j)) → ((j : ℕ) → j < n → bit u j ≡ S (lo + L + j))
     → (j : ℕ) → j < L + n → bit (join_at L a u) j ≡ S (lo + j)
 unfolding join_at
-joined_bits lo L a u n S ha hu j h = ⊎_elim below above (lt_or_ge j L)
+joined_bits lo L a u n S ha hu j h = ⊎_elim below above (cases_lt j L)
   where
     both : ℕ
     both = u * 2 ^ L + a % 2 ^ L

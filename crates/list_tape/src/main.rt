@@ -7,11 +7,10 @@ ghost use Rattle.tape_model.specs.Listing.{printed};
 ghost use Rattle.listing.specs.Clauses.{Wrote, text_room};
 ghost use Rattle.listing.specs.Laws.{longest_input};
 
-use calls::Written;
 use std::io;
 use std::io::Write;
 
-// One byte more than a key and the longest tape: enough to see that an input is too long.
+// One byte more than a key and the longest tape: enough to see that an input is too long. A fixed array, since the project allows no heap.
 fn input_buffer() -> [u8; 65042]
     ensures value { 65042 ≡ length result }
     ensures result_len { length result ≡ 1 + longest_input }
@@ -25,10 +24,7 @@ fn listed(input: &[u8], text: &mut [u8]) -> usize
     ensures wrote { Wrote (printed input.now) text.old result text.new }
     ensures prefix_len { IsPrefixLen result text.new }
 {
-    match listing::list_input(input, text) {
-        Written::Refused(_) => 0,
-        Written::Done(n) => n,
-    }
+    listing::list_input(input, text).unwrap_or(0)
 }
 
 fn main(rt: HostRuntime) -> io::Result<()> {

@@ -9,8 +9,10 @@ use lib.Dec.{eqb, leb}
 use lib.ListN.{length, take, drop, replicate, length-take, length-drop, drop_of_length-le}
 use lib.Seq.{take_all, take-length, drop-length}
 use borrow.Author.Tests.{lt-leb, ne_eqb}
-use Rattle.calls.specs.Calls.{◌if◌else◌, refused, done, written_reply, written_over}
-use Rattle.calls.specs.declared.Written.{Written}
+use Rattle.calls.specs.Calls.{◌if◌else◌, done, as_reply, written_over}
+use Rattle.std.specs.Prelude as std
+use Rattle.std.specs.Result.{result_unwrap_or}
+use Rattle.calls.specs.declared.Refusal.{Refusal}
 use Rattle.acorn_model.specs.Machine.{key_length}
 use Rattle.calls.proofs.Choices.{lt_or_ge}
 use Rattle.tape_model.specs.Ticket.{ticket_length}
@@ -19,30 +21,24 @@ use Rattle.tape_model.specs.Listing.{refused_line, listing_unless, listing, prin
 use Rattle.tape_model.proofs.Tapes.{tapes_come_back}
 use Rattle.listing.specs.Clauses.{Wrote, Listed, text_room}
 use Rattle.listing.specs.Laws.{longest_input, ListingFacts}
-use Rattle.listing.proofs.Texts.{listed-told, listed-not_refused, listed-wrote}
+use Rattle.listing.proofs.Texts.{listed-told, listed-wrote}
 use Rattle.listing.proofs.Longest.{longest}
 
 -- ## Where the key ends
 
 module _ (s : List ℕ) (r k : ℕ) (few : length s ≤ k → r ≡ length s) (many : k ≤ length s → r ≡ k) where
-  pub end-within : r ≤ length s
-  end-within = ⊎_elim (λ (p : length s < k). omega (arith, few (omega arith))) (λ (p : k ≤ length s). omega (arith, many p)) (lt_or_ge (length s) k)
-
   pub same_front : take r s ≡ take k s
   same_front =
       ⊎_elim (λ (p : length s < k). ap (λ (n : ℕ). take n s) (few (omega arith)) ∙ take-length s ∙ sym (take_all k s (omega arith))) (λ (p : k ≤ length s). ap (λ (n : ℕ). take n s) (many p))
       (lt_or_ge (length s) k)
 
-  same_rest : drop r s ≡ drop k s
+  pub same_rest : drop r s ≡ drop k s
   same_rest =
       ⊎_elim (λ (p : length s < k). ap (λ (n : ℕ). drop n s) (few (omega arith)) ∙ drop-length s ∙ sym (drop_of_length-le s {i = k} (omega arith))) (λ (p : k ≤ length s). ap (λ (n : ℕ). drop n s) (many p))
       (lt_or_ge (length s) k)
 
-  pub same-behind : take (length s - r) (drop r s) ≡ drop k s
-  same-behind = take_all (length s - r) (drop r s) (omega (arith, length-drop r s)) ∙ same_rest
-
-  pub input-printed : listing (take r s) (take (length s - r) (drop r s)) ≡ listing (take k s) (drop k s)
-  input-printed = ap₂ listing same_front same-behind
+  pub input-printed : listing (take r s) (drop r s) ≡ listing (take k s) (drop k s)
+  input-printed = ap₂ listing same_front same_rest
 
 -- ## Inputs that are too long
 
@@ -81,17 +77,13 @@ printed-length input = longest (take key_length input) (drop key_length input)
 
 -- ## What a call comes to that is lent room enough
 
-pub input-listed : (input out : List ℕ) (answer : Written) (after : List ℕ) → text_room ≤ length out → Listed (printed input) out answer after
-    → (written_reply answer ≡ done (length (printed input))) × (after ≡ written_over (printed input) out)
+pub input-listed : (input out : List ℕ) (answer : std.Result ℕ Refusal) (after : List ℕ) → text_room ≤ length out → Listed (printed input) out answer after
+    → (as_reply answer ≡ done (length (printed input))) × (after ≡ written_over (printed input) out)
 input-listed input out answer after room met = listed-told (printed input) out answer after (omega (arith, printed-length input)) met
 
--- the same by the answer: it is no refusal, and a length that was answered is the text's
-module _ (input out : List ℕ) (answer : Written) (after : List ℕ) (n : ℕ) (room : text_room ≤ length out) (met : Listed (printed input) out answer after) where
-  pub not_refused : written_reply answer ≡ refused n → ⊥
-  not_refused = listed-not_refused (printed input) out answer after (omega (arith, printed-length input)) met n
-
-  pub input-wrote : written_reply answer ≡ done n → Wrote (printed input) out n after
-  input-wrote = listed-wrote (printed input) out answer after (omega (arith, printed-length input)) met n
+pub input-wrote : (input out : List ℕ) (answer : std.Result ℕ Refusal) (after : List ℕ) → text_room ≤ length out → Listed (printed input) out answer after
+    → Wrote (printed input) out (result_unwrap_or answer 0) after
+input-wrote input out answer after room met = listed-wrote (printed input) out answer after (omega (arith, printed-length input)) met
 
 pub listing_facts : ListingFacts
 listing_facts =

@@ -1,16 +1,14 @@
 -- How long numbers and lines are.
 use mathlib.Core.Path.{◌≡◌, refl, sym, ap, ◌∙◌}
-use mathlib.Core.Bool.{Bool, true, false}
-use mathlib.Core.Logic.{⊎_elim}
+use mathlib.Core.Bool.{Bool, true, false, not}
 use mathlib.Core.List.{List, [], ◌∷◌, ◌++◌}
-use Prim.Native.Nat.{ℕ, zero, suc, ◌+◌, ◌/◌, ◌%◌, ◌^◌, ◌≤◌, ◌<◌}
+use Prim.Native.Nat.{ℕ, zero, suc, ◌+◌, ◌-◌, ◌/◌, ◌%◌, ◌^◌, ◌≤◌, ◌<◌}
 use native.Mathlib.Omega.{arith}
-use lib.Dec.{leb, ltb}
+use lib.Dec.{ltb}
 use lib.ListN.{length, get_or, take, length-append}
 use lib.Seq.{take_all}
-use borrow.Author.Tests.{leb-true, leb-false, lt-ltb, le-ltb, le-leb, lt-leb}
+use Rattle.std.proofs.Common.{Option, Some, None, SomeIff, is_some}
 use Rattle.calls.specs.Calls.{◌if◌else◌}
-use Rattle.calls.proofs.Choices.{lt_or_ge}
 use Rattle.tape_model.specs.declared.Ticket.{Ticket}
 use Rattle.tape_model.specs.declared.Head.{Head}
 use Rattle.tape_model.specs.Ticket.{net}
@@ -53,7 +51,7 @@ line-length word ns = length-append (word ++ numbers ns) line_end ∙ ap (λ (k 
 pub one_number : (word : List ℕ) (n : ℕ) → length (word ++ numbers (n ∷ []) ++ line_end) ≡ length word + length (decimal n) + 2
 one_number word n = omega (arith, line-length word (n ∷ []), number-length n [], no_numbers)
 
--- ## Whether a line fits, number by number: what a word of so many bytes and i numbers leave of the room
+-- ## What a word of so many bytes and i numbers leave of the room
 
 module _ (word : ℕ) (ns : List ℕ) (room i left : ℕ) (counted : word + length (numbers (take i ns)) + left ≡ room) where
   rest-length : length (numbers ns ++ line_end) ≡ length (numbers ns) + 1
@@ -62,29 +60,32 @@ module _ (word : ℕ) (ns : List ℕ) (room i left : ℕ) (counted : word + leng
   pub counted_more : i < length ns → word + length (numbers (take (i + 1) ns)) + left ≡ room + (1 + length (decimal (get_or ns i 0)))
   counted_more here = omega (arith, ap length (number_more ns i here), length-append (numbers (take i ns)) (space ++ decimal (get_or ns i 0)))
 
-  pub number_too_long : i < length ns → left < 1 + length (decimal (get_or ns i 0)) → false ≡ leb (word + length (numbers ns ++ line_end)) room
-  number_too_long here short = sym (lt-leb (word + length (numbers ns ++ line_end)) room (omega (arith, rest-length, counted_more here, numbers-within ns (i + 1))))
+  pub number_too_long : i < length ns → left < 1 + length (decimal (get_or ns i 0)) → room < word + length (numbers ns ++ line_end)
+  number_too_long here short = omega (arith, rest-length, counted_more here, numbers-within ns (i + 1))
 
-  pub end_fits : length ns ≤ i → ltb 0 left ≡ leb (word + length (numbers ns ++ line_end)) room
-  end_fits all =
-      let e = ap (λ (l : List ℕ). length (numbers l)) (take_all i ns all) in
-      ⊎_elim
-      (λ (p : 0 < left). lt-ltb 0 left p ∙ sym (le-leb (word + length (numbers ns ++ line_end)) room (omega (arith, rest-length))))
-      (λ (p : left ≤ 0). le-ltb 0 left p ∙ sym (lt-leb (word + length (numbers ns ++ line_end)) room (omega (arith, rest-length))))
-      (lt_or_ge 0 left)
+  pub all_counted : length ns ≤ i → word + length (numbers ns ++ line_end) + left ≡ room + 1
+  all_counted all = omega (arith, rest-length, ap (λ (l : List ℕ). length (numbers l)) (take_all i ns all))
 
-module _ (word ns : List ℕ) (room : ℕ) where
-  abbrev size : ℕ
-  size = length word + length (numbers ns ++ line_end)
+module _ (word ns : List ℕ) where
+  pub line_size : length (word ++ numbers ns ++ line_end) ≡ length word + length (numbers ns ++ line_end)
+  line_size = sym (ap length (line_parts word ns)) ∙ length-append word (numbers ns ++ line_end)
 
-  in_parts : length (word ++ numbers ns ++ line_end) ≡ size
-  in_parts = sym (ap length (line_parts word ns)) ∙ length-append word (numbers ns ++ line_end)
+-- whether a text fits, by what it leaves of the room
+pub short : (left : Option ℕ) (none : Bool) (rest : ℕ) {need room : ℕ} → SomeIff left (need ≤ room) rest → is_some left ≡ not none → none ≡ true → room < need
+short None none rest s e f = omega (arith, s)
+short (Some x) true rest s e f = absurd (cc)
+short (Some x) false rest s e f = absurd (cc)
 
-  pub line-room : leb size room ≡ true → length (word ++ numbers ns ++ line_end) ≤ room
-  line-room e = omega (arith, in_parts, leb-true size room e)
+pub fits : (left : Option ℕ) (none : Bool) (rest : ℕ) {need room : ℕ} → SomeIff left (need ≤ room) rest → is_some left ≡ not none → none ≡ false → need ≤ room
+fits None true rest s e f = absurd (cc)
+fits None false rest s e f = absurd (cc)
+fits (Some x) none rest s e f = s.0
 
-  pub line_short : leb size room ≡ false → room < length (word ++ numbers ns ++ line_end)
-  line_short e = omega (arith, in_parts, leb-false size room e)
+-- the same need, counted from what is left of a larger room
+pub counted_on : (left : Option ℕ) (before need all room rest : ℕ) → SomeIff left (need ≤ rest) (rest - need) → before + need ≡ all → rest + before ≡ room
+    → SomeIff left (all ≤ room) (room - all)
+counted_on None before need all room rest s e f = λ fits. s (omega (arith, fits))
+counted_on (Some x) before need all room rest s e f = (omega (arith, s), omega (arith, s))
 
 -- ## Lines
 

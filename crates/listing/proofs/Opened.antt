@@ -12,8 +12,9 @@ use Rattle.acorn_model.specs.Machine.{key_length}
 use Rattle.calls.proofs.Results.{refused_told, done-told}
 use Rattle.tape_model.specs.declared.Ticket.{Ticket}
 use Rattle.tape_model.specs.declared.Head.{Head}
+use Rattle.tape_model.specs.declared.Totals.{Totals}
 use Rattle.tape_model.specs.Ticket.{ticket_length, unpack_head}
-use Rattle.tape_model.specs.Tape.{plain_tickets, tickets_in, total_net, Totals, is_tape_length, head_bytes, ticket_count, plain_bytes, open_tape_refusal, open_tape}
+use Rattle.tape_model.specs.Tape.{plain_tickets, tickets_in, total_net, is_tape_length, head_bytes, ticket_count, plain_bytes, open_tape_refusal, open_tape}
 use Rattle.tape_model.specs.Listing.{refused_line, listed, listing_unless, listing}
 use Rattle.tape_model.proofs.Opening.{TapeSize, sizes_told, text-length, was_accepted, net-is, front}
 use Rattle.tape_opening.specs.Clauses.{scratch_after, open_scratch}

@@ -7,9 +7,12 @@ use lib.ListN.{length, get_or, set, take, drop, length-append, length-take, leng
 use lib.Seq.{drop-cons, set_at, take-suc, take-length}
 use borrow.Rule.Slice.PartMut.{put_mid}
 use borrow.Author.Tests.{le-ltb, lt-ltb}
-use Rattle.calls.specs.declared.Written.{Written}
-use Rattle.calls.specs.declared.Written.TheVariants.{Refused, Done}
-use Rattle.calls.specs.Calls.{refused, done, written_reply, written_over, Result, put_into}
+use Rattle.std.specs.Prelude as std
+use Rattle.std.specs.Prelude.{Ok, Err}
+use Rattle.std.specs.Result.{result_unwrap_or}
+use Rattle.calls.specs.declared.Refusal.{Refusal}
+use Rattle.calls.specs.declared.Refusal.TheVariants.{OutputTooShort}
+use Rattle.calls.specs.Calls.{done, as_reply, written_over, Result, put_into}
 use Rattle.calls.proofs.Results.{result-written, result_refused}
 use Rattle.calls.proofs.Writing.{written-length, written_behind}
 use Rattle.tape_model.specs.Listing.{space, line_end, decimal, numbers}
@@ -161,24 +164,24 @@ pub fits_out : (text out : List ℕ) → length text ≤ length out → put_into
 unfolding put_into
 fits_out text out room = result-written _ (length text) text out (rw (le-ltb (length out) (length text) room))
 
-pub listed-whole : {text out after : List ℕ} {r : ℕ} → length text ≤ length out → Wrote text out r after → Listed text out (Done r) after
-unfolding written_reply
+pub listed-whole : {text out after : List ℕ} {r : ℕ} → length text ≤ length out → Wrote text out r after → Listed text out (Ok r) after
+unfolding as_reply
 listed-whole {text} {out} room w = fits_out text out room ∙ ap₂ (λ (n : ℕ) (l : List ℕ). record { answer = done n; out = l }) (sym w.count) (sym w.written)
 
-pub listed_short : (text : List ℕ) {out : List ℕ} → length out < length text → Listed text out (Refused 6) out
-unfolding put_into written_reply
+pub listed_short : (text : List ℕ) {out : List ℕ} → length out < length text → Listed text out (Err OutputTooShort) out
+unfolding put_into as_reply
 listed_short text {out} short = rw (lt-ltb (length out) (length text) short) (result_refused 6 (length text) text out (λ e. omega arith))
 
--- ## What a call comes to that is lent room enough: it is not refused, and a length that was answered is the text's
+-- ## What a call comes to that is lent room enough: it is not refused, and the length that is answered is the text's
 
-module _ (text out : List ℕ) (answer : Written) (after : List ℕ) (room : length text ≤ length out) (met : Listed text out answer after) where
-  pub listed-told : (written_reply answer ≡ done (length text)) × (after ≡ written_over text out)
+module _ (text out : List ℕ) (answer : std.Result ℕ Refusal) (after : List ℕ) (room : length text ≤ length out) (met : Listed text out answer after) where
+  pub listed-told : (as_reply answer ≡ done (length text)) × (after ≡ written_over text out)
   listed-told = let e = sym met ∙ fits_out text out room in (ap (λ (r : Result ℕ). r.answer) e, ap (λ (r : Result ℕ). r.out) e)
 
-  pub listed-not_refused : (n : ℕ) → written_reply answer ≡ refused n → ⊥
-  listed-not_refused n e =
-      let f : refused n ≡ done (length text) = sym e ∙ listed-told.0 in
-      let z : ◌≡◌ {A = ℕ} 0 1 = cc in omega arith
-
-  pub listed-wrote : (n : ℕ) → written_reply answer ≡ done n → Wrote text out n after
-  listed-wrote n e = let f : done n ≡ done (length text) = sym e ∙ listed-told.0 in record { count = cc; written = listed-told.1 }
+  pub listed-wrote : Wrote text out (result_unwrap_or answer 0) after
+  unfolding as_reply
+  listed-wrote = record { count = by answer listed-told.0; written = listed-told.1 }
+    where
+      by : (r : std.Result ℕ Refusal) → as_reply r ≡ done (length text) → result_unwrap_or r 0 ≡ length text
+      by (Ok n) e = cc
+      by (Err r) e = absurd (let z : ◌≡◌ {A = ℕ} 0 1 = cc in omega arith)

@@ -1,14 +1,14 @@
-// The lengths of a listing's lines, by which it is known whether the text fits before any of it is written.
-ghost use Rattle.std.specs.Prelude.{◌≡◌, false, ◌++◌, ◌+◌, ◌≤◌, leb, length};
-ghost use Rattle.calls.specs.Calls.{done, is_refused};
-ghost use Rattle.tape_model.specs.Tape.{plain_tickets, tickets_in};
+// What the lines of a listing leave of the room for them, by which it is known whether all fit before any of them is written.
+ghost use Rattle.std.specs.Prelude.{◌≡◌, ◌++◌, ◌+◌, ◌-◌, ◌≤◌, SomeIff, length};
 ghost use Rattle.tape_model.specs.Listing as model;
-ghost use Rattle.listing.specs.Clauses.{HoldTickets, lines_of};
+ghost use Rattle.listing.specs.Clauses.{HoldTickets, lines_of, text_of};
 
-use tape_model::{Head, TICKET_LENGTH, Ticket, UnpackedTicket};
+use super::lines::{Opened, head_numbers, listed_numbers, total_numbers};
+use tape_model::TICKET_LENGTH;
 
-// How many digits a number has: at most 20, so that no sum of a few such lengths wraps.
-fn decimal_length(n: u64) -> usize
+// How many digits a number has. (By a loop that divides: the library's `checked_ilog10` reads a table at a place that follows from the number, which no call
+// may do with a listed one, tests/stack_and_secrets.)
+pub(crate) fn decimal_length(n: u64) -> usize
     ensures value { result ≡ length (model.decimal n) }
     ensures upper_bound { result ≤ 20 }
 {
@@ -21,92 +21,37 @@ fn decimal_length(n: u64) -> usize
     digits
 }
 
-// Whether a line of a word of so many bytes, and numbers behind it, fits into so much room.
-pub(crate) fn line_fits(word: usize, ns: &[u64], room: usize) -> bool
-    ensures { result ≡ leb (word + length (model.numbers ns.now ++ model.line_end)) room }
+// What is left of so much room behind a line of a word of so many bytes and numbers behind it; none where the line does not fit.
+pub(crate) fn room_behind_line(word: usize, ns: &[u64], room: usize) -> Option<usize>
+    ensures { SomeIff result (word + length (model.numbers ns.now ++ model.line_end) ≤ room) (room - (word + length (model.numbers ns.now ++ model.line_end))) }
 {
-    if room < word {
-        return false;
+    let mut left = room.checked_sub(word)?;
+    for n in ns {
+        left = left.checked_sub(1 + decimal_length(*n))?;
     }
-    let mut left = room - word;
-    let mut i: usize = 0;
-    while i < ns.len() {
-        let n = 1 + decimal_length(ns[i]);
-        if left < n {
-            return false;
-        }
-        left -= n;
-        i += 1;
-    }
-    0 < left
+    left.checked_sub(1)
 }
 
-pub(crate) fn refused_line_length(number: u8) -> usize
-    ensures { result ≡ length (model.refused_line number) }
+// The same of the lines of opened tickets. (Bytes that do not unpack are out of reach, by what Opened holds. `let .. else` is document 01's form: see
+// `ticket::totals`.)
+fn room_behind_tickets(opened: Opened<'_>, room: usize) -> Option<usize>
+    ensures { SomeIff result (length (lines_of opened.entry.plain.now) ≤ room) (room - length (lines_of opened.entry.plain.now)) }
 {
-    9 + decimal_length(number as u64)
-}
-
-fn head_line_length(head: Head) -> usize
-    ensures value { result ≡ length (model.head_line head) }
-    ensures upper_bound { result ≤ 68 }
-{
-    let device = decimal_length(head.device as u64);
-    let shift = decimal_length(head.shift as u64);
-    let sheet = decimal_length(head.sheet as u64);
-    8 + device + shift + sheet
-}
-
-fn total_line_length(tickets: usize, net: u64) -> usize
-    ensures value { result ≡ length (model.line_of_totals tickets net) }
-    ensures upper_bound { result ≤ 48 }
-{
-    8 + decimal_length(tickets as u64) + decimal_length(net)
-}
-
-fn ticket_line_length(position: usize, t: Ticket) -> usize
-    ensures value { result ≡ length (model.ticket_line position t) }
-    ensures upper_bound { result ≤ 168 }
-{
-    let first = decimal_length(position as u64);
-    let truck = decimal_length(t.truck as u64);
-    let shovel = decimal_length(t.shovel as u64);
-    let tip = decimal_length(t.tip as u64);
-    let grade = decimal_length(t.grade as u64);
-    let loaded = decimal_length(t.loaded as u64);
-    let tipped = decimal_length(t.tipped as u64);
-    let net = decimal_length(ticket::net(t) as u64);
-    8 + first + truck + shovel + tip + grade + loaded + tipped + net
-}
-
-// The length of the lines of the tickets in opened bytes.
-fn ticket_lines_length(plain: &[u8]) -> usize
-    requires { is_refused (plain_tickets plain.now) ≡ false }
-    ensures value { result ≡ length (lines_of plain.now) }
-    ensures upper_bound { result ≤ 840000 }
-{
-    let tickets = plain.len() / TICKET_LENGTH;
-    let mut i: usize = 0;
-    let mut sum: usize = 0;
-    while i < tickets {
-        let at = TICKET_LENGTH * i;
-        let end = at + TICKET_LENGTH;
-        let UnpackedTicket::Done(t) = ticket::unpack_ticket(&plain[at..end]) else {
-            return sum;
+    let mut left = room;
+    for (i, bytes) in opened.plain.chunks_exact(TICKET_LENGTH).enumerate() {
+        let Ok(t) = ticket::unpack_ticket(bytes) else {
+            return None;
         };
-        sum += ticket_line_length(i + 1, t);
-        i += 1;
+        left = room_behind_line(decimal_length(i as u64 + 1), &listed_numbers(t), left)?;
     }
-    sum
+    Some(left)
 }
 
-// The length of the listing of a tape with this head that opened to these bytes.
-pub(crate) fn listed_length(head: Head, plain: &[u8], net: u64) -> usize
-    requires { HoldTickets plain.now net }
-    ensures { result ≡ length (model.listed (done head) (tickets_in (plain_tickets plain.now))) }
+// The same of a whole listing.
+pub(crate) fn room_behind(opened: Opened<'_>, room: usize) -> Option<usize>
+    ensures { SomeIff result (length (text_of opened.entry.head opened.entry.plain.now) ≤ room) (room - length (text_of opened.entry.head opened.entry.plain.now)) }
 {
-    let first = head_line_length(head);
-    let tickets = ticket_lines_length(plain);
-    let last = total_line_length(plain.len() / TICKET_LENGTH, net);
-    first + tickets + last
+    let left = room_behind_line(b"TAPE".len(), &head_numbers(opened.head), room)?;
+    let left = room_behind_tickets(opened, left)?;
+    room_behind_line(b"TOTAL".len(), &total_numbers(opened), left)
 }

@@ -1,39 +1,29 @@
 // The lines of a listing, each written at the start of lent bytes. Each function answers how many bytes it wrote.
-ghost use Rattle.std.specs.Prelude.{◌≡◌, false, ◌≤◌, length};
-ghost use Rattle.tape_model.specs.Tape.{plain_tickets};
-ghost use Rattle.calls.specs.Calls.{is_refused};
+ghost use Rattle.std.specs.Prelude.{◌≡◌, ◌∷◌, [], ◌/◌, ◌≤◌, length};
 ghost use Rattle.tape_model.specs.Listing as model;
-ghost use Rattle.listing.specs.Clauses.{Wrote, lines_of};
+ghost use Rattle.listing.specs.Clauses.{Wrote, HoldTickets, lines_of, text_of};
 
-use super::text::{put_decimal, put_line, put_rest};
-use tape_model::{Head, TICKET_LENGTH, Ticket, UnpackedTicket};
+use super::text::{put_line, put_numbers_line};
+use tape_model::{Head, TICKET_LENGTH, Ticket};
 
-pub(crate) fn put_refused_line(number: u8, out: &mut [u8]) -> usize
-    requires { length (model.refused_line number) ≤ length out.old }
-    ensures { Wrote (model.refused_line number) out.old result out.new }
-{
-    let ns = [number as u64];
-    put_line(b"REFUSED", &ns, out)
+// A tape that was opened: its head, and the plain bytes of its tickets with their total net.
+#[derive(Clone, Copy)]
+pub(crate) struct Opened<'a> {
+    pub(crate) head: Head,
+    pub(crate) plain: &'a [u8],
+    pub(crate) net: u64,
+    ghost held: { HoldTickets plain.now net },
 }
 
-pub(crate) fn put_head_line(head: Head, out: &mut [u8]) -> usize
-    requires { length (model.head_line head) ≤ length out.old }
-    ensures { Wrote (model.head_line head) out.old result out.new }
+// The numbers of a head's line.
+pub(crate) fn head_numbers(head: Head) -> [u64; 3]
+    ensures { result ≡ head.device ∷ head.shift ∷ head.sheet ∷ [] }
 {
-    let ns = [head.device as u64, head.shift as u64, head.sheet as u64];
-    put_line(b"TAPE", &ns, out)
-}
-
-pub(crate) fn put_total_line(tickets: usize, net: u64, out: &mut [u8]) -> usize
-    requires { length (model.line_of_totals tickets net) ≤ length out.old }
-    ensures { Wrote (model.line_of_totals tickets net) out.old result out.new }
-{
-    let ns = [tickets as u64, net];
-    put_line(b"TOTAL", &ns, out)
+    [head.device as u64, head.shift as u64, head.sheet as u64]
 }
 
 // The numbers of a ticket's line, but for its position.
-fn listed_numbers(t: Ticket) -> [u64; 7]
+pub(crate) fn listed_numbers(t: Ticket) -> [u64; 7]
     ensures { result ≡ model.listed_numbers t }
 {
     [
@@ -47,33 +37,36 @@ fn listed_numbers(t: Ticket) -> [u64; 7]
     ]
 }
 
-pub(crate) fn put_ticket_line(position: usize, t: Ticket, out: &mut [u8]) -> usize
-    requires { length (model.ticket_line position t) ≤ length out.old }
-    ensures { Wrote (model.ticket_line position t) out.old result out.new }
+// The numbers of the line of totals.
+pub(crate) fn total_numbers(opened: Opened<'_>) -> [u64; 2]
+    ensures { result ≡ length opened.entry.plain.now / 13 ∷ opened.entry.net ∷ [] }
 {
-    let ns = listed_numbers(t);
-    let n = put_decimal(position as u64, out);
-    let k = put_rest(&ns, &mut out[n..]);
-    n + k
+    [(opened.plain.len() / TICKET_LENGTH) as u64, opened.net]
 }
 
-// The lines of the tickets in opened bytes.
-pub(crate) fn put_ticket_lines(plain: &[u8], out: &mut [u8]) -> usize
-    requires { (is_refused (plain_tickets plain.now) ≡ false) × (length (lines_of plain.now) ≤ length out.old) }
-    ensures { Wrote (lines_of plain.now) out.old result out.new }
+// The lines of opened tickets. (Bytes that do not unpack are out of reach, by what Opened holds. `let .. else` is document 01's form: see `ticket::totals`.)
+fn put_ticket_lines(opened: Opened<'_>, out: &mut [u8]) -> usize
+    requires { length (lines_of opened.plain.now) ≤ length out.old }
+    ensures { Wrote (lines_of opened.entry.plain.now) out.old result out.new }
 {
-    let tickets = plain.len() / TICKET_LENGTH;
-    let mut i: usize = 0;
     let mut at: usize = 0;
-    while i < tickets {
-        let from = TICKET_LENGTH * i;
-        let end = from + TICKET_LENGTH;
-        let UnpackedTicket::Done(t) = ticket::unpack_ticket(&plain[from..end]) else {
+    for (i, bytes) in opened.plain.chunks_exact(TICKET_LENGTH).enumerate() {
+        let Ok(t) = ticket::unpack_ticket(bytes) else {
             return at;
         };
-        let k = put_ticket_line(i + 1, t, &mut out[at..]);
-        at += k;
-        i += 1;
+        at += put_numbers_line(i as u64 + 1, &listed_numbers(t), &mut out[at..]);
     }
     at
+}
+
+// A whole listing.
+pub(crate) fn put_listing(opened: Opened<'_>, out: &mut [u8]) -> usize
+    requires { length (text_of opened.head opened.plain.now) ≤ length out.old }
+    ensures { Wrote (text_of opened.entry.head opened.entry.plain.now) out.old result out.new }
+{
+    let a = put_line(b"TAPE", &head_numbers(opened.head), out);
+    let b = put_ticket_lines(opened, &mut out[a..]);
+    let at = a + b;
+    let c = put_line(b"TOTAL", &total_numbers(opened), &mut out[at..]);
+    at + c
 }

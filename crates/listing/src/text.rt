@@ -1,9 +1,10 @@
-// Text in ASCII, written at the start of lent bytes. Each function answers how many bytes it wrote.
+// Text in ASCII, written at the start of lent bytes. Each function answers how many bytes it wrote. (That there is room for the text stands in each contract,
+// of another text each time, so that no struct could hold it.)
 ghost use Rattle.std.specs.Prelude.{◌≤◌, ◌++◌, length};
 ghost use Rattle.tape_model.specs.Listing as model;
 ghost use Rattle.listing.specs.Clauses.{Wrote};
 
-// A number in decimal.
+// A number in decimal. (std writes digits only as text through `fmt::Write`; a writer over lent bytes, with its contract, would be longer than this.)
 pub(crate) fn put_decimal(n: u64, out: &mut [u8]) -> usize
     requires { length (model.decimal n) ≤ length out.old }
     ensures { Wrote (model.decimal n) out.old result out.new }
@@ -32,12 +33,9 @@ pub(crate) fn put_numbers(ns: &[u64], out: &mut [u8]) -> usize
     requires { length (model.numbers ns.now) ≤ length out.old }
     ensures { Wrote (model.numbers ns.now) out.old result out.new }
 {
-    let mut i: usize = 0;
     let mut at: usize = 0;
-    while i < ns.len() {
-        let k = put_number(ns[i], &mut out[at..]);
-        at += k;
-        i += 1;
+    for n in ns {
+        at += put_number(*n, &mut out[at..]);
     }
     at
 }
@@ -61,4 +59,14 @@ pub(crate) fn put_line(word: &[u8], ns: &[u64], out: &mut [u8]) -> usize
     out[..w].copy_from_slice(word);
     let k = put_rest(ns, &mut out[w..]);
     w + k
+}
+
+// A line of numbers, a space between them.
+pub(crate) fn put_numbers_line(first: u64, ns: &[u64], out: &mut [u8]) -> usize
+    requires { length (model.decimal first ++ model.numbers ns.now ++ model.line_end) ≤ length out.old }
+    ensures { Wrote (model.decimal first ++ model.numbers ns.now ++ model.line_end) out.old result out.new }
+{
+    let n = put_decimal(first, out);
+    let k = put_rest(ns, &mut out[n..]);
+    n + k
 }

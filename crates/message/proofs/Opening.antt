@@ -7,9 +7,12 @@ use Prim.Native.Nat.{ℕ, ◌-◌, ◌≤◌}
 use native.Mathlib.Omega.{arith}
 use lib.ListN.{length}
 use Rattle.acorn_model.specs.Bits.{Bits}
+use Rattle.calls.specs.declared.Refusal.{Refusal}
+use Rattle.calls.specs.Refusals.{refusal_number}
 use Rattle.calls.specs.Calls.{◌if◌else◌, refused, done, unless_refused, written_over, same_bytes, result_of}
 use Rattle.acorn_model.specs.Stretches.{full_tag_length, text_out, tag_bytes, after_data, before_final}
 use Rattle.acorn_model.specs.Message.{cipher_part, tag_part, tag_matches_with, opened_with, tag_refusal, open_refusal, open_message}
+use Rattle.calls.proofs.Numbers.{not_zero}
 use Rattle.calls.proofs.Refusals.{refused_if}
 use Rattle.acorn_model.proofs.Agree.{decrypted_agrees, new_tag_agrees}
 use Rattle.acorn_model.proofs.Messages.{Openable, open_told, opened-length}
@@ -34,14 +37,14 @@ module _ (tag_length : ℕ) (key nonce «data» s : List ℕ) (S : Bits) (S-is :
 module _ (tag_length : ℕ) (key nonce «data» s out : List ℕ) where
   -- ## The number that the sizes give
 
-  module _ (n : ℕ) (number : open_refusal tag_length key nonce «data» s out ≡ unless_refused n (tag_refusal tag_length key nonce «data» s) n) where
-    pub sent_back : (n ≡ 0 → ⊥) → open_message tag_length key nonce «data» s out ≡ record { answer = refused n; out = out }
-    unfolding open_message
-    sent_back h = rw (number ∙ refused_if n (tag_refusal tag_length key nonce «data» s) n h) (result_refused n _ _ out h)
+  pub sent_back : (r : Refusal) → open_refusal tag_length key nonce «data» s out ≡ unless_refused (refusal_number r) (tag_refusal tag_length key nonce «data» s) (refusal_number r)
+      → open_message tag_length key nonce «data» s out ≡ record { answer = refused (refusal_number r); out = out }
+  unfolding open_message
+  sent_back r number = rw (number ∙ refused_if (refusal_number r) (tag_refusal tag_length key nonce «data» s) (refusal_number r) (not_zero r)) (result_refused (refusal_number r) _ _ out (not_zero r))
 
-    pub let_through : n ≡ 0 → open_refusal tag_length key nonce «data» s out ≡ tag_refusal tag_length key nonce «data» s
-    unfolding unless_refused
-    let_through e = number ∙ ap (λ (k : ℕ). unless_refused k (tag_refusal tag_length key nonce «data» s) k) e
+  pub let_through : open_refusal tag_length key nonce «data» s out ≡ unless_refused 0 (tag_refusal tag_length key nonce «data» s) 0 → open_refusal tag_length key nonce «data» s out ≡ tag_refusal tag_length key nonce «data» s
+  unfolding unless_refused
+  let_through none = none
 
   -- ## What is left to the tag
 

@@ -1,19 +1,19 @@
 -- The contracts of sealing and opening whole messages, and of decrypting one into a buffer; and what opening the rest of a message comes to.
-use Rattle.std.specs.Prelude.{◌≡◌, Bool, true, not, ◌&&◌, List, ℕ, ◌-◌, leb, length, replicate}
-use Rattle.calls.specs.declared.Written.{Written}
-use Rattle.calls.specs.Calls.{◌if◌else◌, written_reply, written_over, same_bytes}
+use Rattle.std.specs.Prelude.{Result, ◌≡◌, Bool, true, not, ◌&&◌, List, ℕ, ◌-◌, leb, length, replicate}
+use Rattle.calls.specs.declared.Refusal.{Refusal}
+use Rattle.calls.specs.Calls.{◌if◌else◌, as_reply, written_over, same_bytes}
 use Rattle.acorn_model.specs.Bits.{Bits}
 use Rattle.acorn_model.specs.Stretches.{full_tag_length, text_out, tag_bytes, before_final}
 use Rattle.acorn_model.specs.Machine.{key_and_nonce_right}
 use Rattle.acorn_model.specs.Message.{cipher_part, tag_part, seal_message, tag_matches, opened, open_message}
 
 -- sealing with a tag of n bytes into `out` answered r, and left `after` there
-abbrev pub Seals : ℕ → List ℕ → List ℕ → List ℕ → List ℕ → List ℕ → Written → List ℕ → Type 0
-Seals n key nonce «data» text out r after = seal_message n key nonce «data» text out ≡ record { answer = written_reply r; out = after }
+abbrev pub Seals : ℕ → List ℕ → List ℕ → List ℕ → List ℕ → List ℕ → Result ℕ Refusal → List ℕ → Type 0
+Seals n key nonce «data» text out r after = seal_message n key nonce «data» text out ≡ record { answer = as_reply r; out = after }
 
 -- and opening
-abbrev pub OpensTo : ℕ → List ℕ → List ℕ → List ℕ → List ℕ → List ℕ → Written → List ℕ → Type 0
-OpensTo n key nonce «data» sealed_bytes out r after = open_message n key nonce «data» sealed_bytes out ≡ record { answer = written_reply r; out = after }
+abbrev pub OpensTo : ℕ → List ℕ → List ℕ → List ℕ → List ℕ → List ℕ → Result ℕ Refusal → List ℕ → Type 0
+OpensTo n key nonce «data» sealed_bytes out r after = open_message n key nonce «data» sealed_bytes out ≡ record { answer = as_reply r; out = after }
 
 -- ## Decrypting what has a full tag into a buffer of the caller's
 

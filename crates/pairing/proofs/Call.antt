@@ -8,8 +8,8 @@ use native.Mathlib.Omega.{arith}
 use lib.Dec.{ltb}
 use lib.ListN.{length}
 use borrow.Author.Tests.{ltb-true, ltb-false, lt-ltb, le-ltb}
+use Rattle.std.proofs.lemmas.Bool.{or_parts}
 use Rattle.calls.specs.Calls.{◌if◌else◌, Reply, refused, done}
-use Rattle.calls.proofs.Choices.{neither}
 use Rattle.calls.proofs.Writing.{written-length}
 use Rattle.tape_model.specs.declared.Ticket.{Ticket}
 use Rattle.tape_model.specs.Ticket.{ticket_length}
@@ -74,8 +74,8 @@ told_lengths : {out : Outputs} {r : Reply Paired} {x : PairingResult} → Called
 told_lengths (refusal m) = (refl, refl, refl)
 told_lengths (short found h) = (refl, refl, refl)
 told_lengths {out} (writes found h) =
-    let p = neither _ _ h in
-    let q = neither _ _ p.1 in (
+    let p = or_parts _ _ h in
+    let q = or_parts _ _ p.1 in (
       written-length (pair_numbers found.pairs) out.pairs (ltb-false _ _ p.0),
       written-length found.left_first out.left_first (ltb-false _ _ q.0),
       written-length found.left_second out.left_second (ltb-false _ _ q.1),

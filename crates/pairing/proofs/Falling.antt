@@ -10,9 +10,9 @@ use lib.Seq.{get_or-set_same, get_or-set_other}
 use borrow.Author.Tests.{ltb-true, ltb-false, eqb-true, eqb-false, lt-ltb, le-ltb}
 use Rattle.calls.specs.Calls.{◌if◌else◌, Reply, refused, done, map_reply}
 use Rattle.tape_model.specs.declared.Ticket.{Ticket}
-use Rattle.tape_model.specs.Tape.{plain_tickets, of_plain}
+use Rattle.tape_model.specs.Tape.{plain_tickets, tickets_in, of_plain}
 use Rattle.pairing.specs.Pairing.{falls_behind, times_fall, unless_falling, tickets_to_pair}
-use Rattle.pairing.specs.Clauses.{number_of}
+use Rattle.pairing.specs.Clauses.{tickets_of}
 
 -- the last time of each truck
 abbrev pub Times : Type 0
@@ -117,24 +117,29 @@ pub none_behind : (fell : Bool) (last : List ℕ) → fell ≡ fell_or_falls fel
 unfolding falls_from
 none_behind fell last = sym (or-false fell)
 
--- ## The number
+-- ## The tape
 
-pub number_refused : (plain : List ℕ) (n : ℕ) → refused n ≡ of_plain times_fall plain → n ≡ number_of (tickets_to_pair plain)
+pub number_refused : (plain : List ℕ) (n : ℕ) → refused n ≡ of_plain times_fall plain → tickets_to_pair plain ≡ refused n
 unfolding of_plain tickets_to_pair map_reply
 number_refused plain n = by (plain_tickets plain)
   where
-    by : (r : Reply (List Ticket)) → refused n ≡ map_reply times_fall r → n ≡ number_of (unless_falling r)
-    by (refused m) e = cc
+    by : (r : Reply (List Ticket)) → refused n ≡ map_reply times_fall r → unless_falling r ≡ refused n
+    by (refused m) e = let same : n ≡ m = cc in ap refused (sym same)
     by (done ts) e = absurd (let z : ◌≡◌ {A = ℕ} 0 1 = cc in omega arith)
 
-pub number-done : (plain : List ℕ) (fell : Bool) → done fell ≡ of_plain times_fall plain → (12 if fell else 0) ≡ number_of (tickets_to_pair plain)
-unfolding of_plain tickets_to_pair map_reply
-number-done plain fell = by (plain_tickets plain)
-  where
-    told : (ts : List Ticket) (b : Bool) → times_fall ts ≡ b → (12 if b else 0) ≡ number_of (refused 12 if times_fall ts else done ts)
-    told ts true e = rw e
-    told ts false e = rw e
+module _ (plain : List ℕ) (fell : Bool) (e : done fell ≡ of_plain times_fall plain) where
+  pub twelve : fell ≡ true → tickets_to_pair plain ≡ refused 12
+  unfolding of_plain tickets_to_pair map_reply
+  twelve f = by (plain_tickets plain) e
+    where
+      by : (r : Reply (List Ticket)) → done fell ≡ map_reply times_fall r → unless_falling r ≡ refused 12
+      by (refused m) e = absurd (let z : ◌≡◌ {A = ℕ} 0 1 = cc in omega arith)
+      by (done ts) e = let same : times_fall ts ≡ true = cc in rw same
 
-    by : (r : Reply (List Ticket)) → done fell ≡ map_reply times_fall r → (12 if fell else 0) ≡ number_of (unless_falling r)
-    by (refused m) e = absurd (let z : ◌≡◌ {A = ℕ} 0 1 = cc in omega arith)
-    by (done ts) e = told ts fell (cc)
+  pub in_time : fell ≡ false → tickets_to_pair plain ≡ done (tickets_of plain)
+  unfolding of_plain tickets_to_pair map_reply
+  in_time f = by (plain_tickets plain) e
+    where
+      by : (r : Reply (List Ticket)) → done fell ≡ map_reply times_fall r → unless_falling r ≡ done (tickets_in r)
+      by (refused m) e = absurd (let z : ◌≡◌ {A = ℕ} 0 1 = cc in omega arith)
+      by (done ts) e = let same : times_fall ts ≡ false = cc in rw same

@@ -104,9 +104,6 @@ module _ {out₀ all out : List ℕ} {n : ℕ} (l : List ℕ) (j : ℕ) (h : j <
       pair_to_write : Filled out₀ all out n (suc j ∷ get_or l j 0 ∷ pair_numbers (pairs_in (suc (suc j)) (drop (j + 1) l)))
       pair_to_write = rw (pair-here l (suc j) j h z) at f
 
-      pub pair-room : n + 1 < length out
-      pair-room = omega (arith, fill_room pair_to_write)
-
       pub pair-written : (x y : ℕ) → x ≡ suc j → y ≡ get_or l j 0 → (o : List ℕ) (m : ℕ) → o ≡ set (set out n x) (n + 1) y → m ≡ n + 2
           → Filled out₀ all o m (pair_numbers (pairs_in (suc (j + 1)) (drop (j + 1) l)))
       pair-written x y ex ey o m eo em =

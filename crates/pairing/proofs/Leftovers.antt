@@ -8,7 +8,7 @@ use native.Mathlib.Omega.{arith}
 use lib.Dec.{eqb, leb}
 use lib.ListN.{length}
 use borrow.Author.Tests.{leb-true, leb-false, eq-eqb, ne_eqb}
-use Rattle.calls.proofs.Choices.{lt_or_ge}
+use Rattle.std.proofs.lemmas.Bool.{cases_lt}
 use Rattle.tape_model.specs.declared.Ticket.{Ticket}
 use Rattle.trucks.specs.Words.{one}
 use Rattle.trucks.specs.Laws.{occurrences}
@@ -135,7 +135,7 @@ inside zero k p h l = absurd (omega arith)
 inside (suc n) k p h l =
     ⊎_elim (λ (m : k < p). rw (ne_eqb k p (λ e. omega arith)) (omega (arith, inside n (suc k) p m (omega arith))))
     (λ (m : p ≤ k). rw (eq-eqb k p (omega arith)) (omega (arith, outside n (suc k) p (inl (omega arith)))))
-    (lt_or_ge k p)
+    (cases_lt k p)
 
 -- each position once
 each_position : (n p : ℕ) → occurrences p (positions 1 n) ≡ one (leb 1 p && leb p n)

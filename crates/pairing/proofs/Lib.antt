@@ -1,3 +1,4 @@
+pub mod Smaller
 pub mod Times
 pub mod Greedy
 pub mod Rules

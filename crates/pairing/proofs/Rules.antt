@@ -8,7 +8,7 @@ use native.Mathlib.Omega.{arith}
 use lib.Dec.{leb, eqb}
 use lib.ListN.{length}
 use borrow.Author.Tests.{leb-true, eqb-true, le-leb, eq-eqb}
-use Rattle.calls.proofs.Choices.{lt_or_ge, both}
+use Rattle.std.proofs.lemmas.Bool.{cases_lt, and_parts}
 use Rattle.tape_model.specs.declared.Ticket.{Ticket}
 use Rattle.pairing.specs.Pairing.{at, is_position, may_pair, fits, Pair, firsts, seconds, AllFit, NotIn, Distinct, KeepsRules, positions, paired, times_fall}
 use Rattle.pairing.specs.Laws.{RisingFrom, Fits}
@@ -21,12 +21,12 @@ module _ (ts us : List Ticket) (p q : ℕ) where
   pub fits_means : fits ts us p q ≡ true → Fits ts us p q
   unfolding fits
   fits_means e =
-      let f = both (is_position ts p && is_position us q) (may_pair (at ts p) (at us q)) e in
-      let on = both (is_position ts p) (is_position us q) f.0 in
-      let first = both (leb 1 p) (leb p (length ts)) on.0 in
-      let second = both (leb 1 q) (leb q (length us)) on.1 in
-      let may = both (eqb (at ts p).truck (at us q).truck) _ f.1 in
-      let times = both (leb (at ts p).tipped ((at us q).tipped + 120)) (leb (at us q).tipped ((at ts p).tipped + 120)) may.1 in
+      let f = and_parts (is_position ts p && is_position us q) (may_pair (at ts p) (at us q)) e in
+      let on = and_parts (is_position ts p) (is_position us q) f.0 in
+      let first = and_parts (leb 1 p) (leb p (length ts)) on.0 in
+      let second = and_parts (leb 1 q) (leb q (length us)) on.1 in
+      let may = and_parts (eqb (at ts p).truck (at us q).truck) _ f.1 in
+      let times = and_parts (leb (at ts p).tipped ((at us q).tipped + 120)) (leb (at us q).tipped ((at ts p).tipped + 120)) may.1 in
       record {
         first-low = leb-true 1 p first.0;
         first-high = leb-true p (length ts) first.1;
@@ -72,7 +72,7 @@ module _ (ts us : List Ticket) (e : times_fall ts ≡ false) (e' : times_fall us
     where
       later : 1 ≤ q → y ≤ length us → (at us q).truck ≡ (at us y).truck → (at us q).tipped ≤ (at us y).tipped
       later low high same =
-          ⊎_elim (λ (l : q < y). times_by_position us e' q y low l high same) (λ (l : y ≤ q). let s : q ≡ y = omega arith in rw s (omega arith)) (lt_or_ge q y)
+          ⊎_elim (λ (l : q < y). times_by_position us e' q y low l high same) (λ (l : y ≤ q). let s : q ≡ y = omega arith in rw s (omega arith)) (cases_lt q y)
 
 -- ## The pairs of any pairing that keeps the rules can be made one after the other
 
@@ -112,7 +112,7 @@ module _ (fit : ℕ → ℕ → Bool) where
 in_positions : (n k x : ℕ) → k ≤ x → x < k + n → Memᴰ x (positions k n)
 in_positions zero k x h l = absurd (omega arith)
 in_positions (suc n) k x h l =
-    ⊎_elim (λ (m : k < x). Memᴰ.tail (in_positions n (suc k) x m (omega arith))) (λ (m : x ≤ k). Memᴰ.head (omega arith)) (lt_or_ge k x)
+    ⊎_elim (λ (m : k < x). Memᴰ.tail (in_positions n (suc k) x m (omega arith))) (λ (m : x ≤ k). Memᴰ.head (omega arith)) (cases_lt k x)
 
 pub rising_positions : (n k : ℕ) → RisingFrom k (positions k n)
 rising_positions zero k = tt

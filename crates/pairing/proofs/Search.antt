@@ -1,18 +1,18 @@
 -- The search for pairs: the partners found so far, and what `greedy` has yet to give, are together what `paired` gives.
 use mathlib.Core.Path.{◌≡◌, refl, sym, ap, ◌∙◌}
 use mathlib.Core.Bool.{Bool, true, false, false≢true}
-use mathlib.Core.List.{List, [], ◌∷◌, ◌++◌, append-nil}
+use mathlib.Core.List.{List, [], ◌∷◌, ◌++◌}
 use Prim.Native.Nat.{ℕ, zero, suc, ◌+◌, ◌-◌, ◌≤◌, ◌<◌}
 use native.Mathlib.Omega.{arith}
 use native.Mathlib.Numerals.{add-one}
 use lib.Dec.{leb, ltb}
 use lib.ListN.{length, get_or, set, take, length-set, length-append}
-use lib.Seq.{length-take-le, take-suc-set, append_snoc, take_all}
+use lib.Seq.{length-take-le, take-suc-set, append_snoc}
 use borrow.Author.Tests.{ltb-true, leb-true, lt-ltb, le-leb}
-use Rattle.calls.proofs.Choices.{both}
+use Rattle.std.proofs.lemmas.Bool.{and_parts}
 use Rattle.tape_model.specs.declared.Ticket.{Ticket}
 use Rattle.pairing.specs.Pairing.{fits, Pair, positions, Choice, no_partner, first_that_fits, Paired, with_pair, with_left, takes, greedy, paired, times_fall}
-use Rattle.pairing.specs.Clauses.{truck_of, tipped_of, Linked, LinkedFrom, FirstNotEarly, Seeks, not_late, unpaired, pairs_in, Finds}
+use Rattle.pairing.specs.Clauses.{truck_of, tipped_of, Linked, LinkedFrom, FirstNotEarly, Seeks, not_late, unpaired, pairs_in}
 use Rattle.pairing.proofs.Cursors.{all_free, Ready, ready_start, nobody_fits, ready_without, partner_fits, ready_with}
 
 -- ## Partners, one more at the end
@@ -88,21 +88,6 @@ module _ (ts us : List Ticket) where
     where
       all : rest 0 taken ≡ greedy (fits ts us) (positions 1 (length ts)) (positions 1 (length us))
       all = let n : length ts - 0 ≡ length ts = omega arith in rw (n, all_free taken 1 clear, et)
-
-  pub search_end : {partners taken cursors : List ℕ} {count i : ℕ} → Search partners taken cursors count i → length ts ≤ i → Finds ts us partners taken count
-  search_end {partners} {taken} {cursors} {count} {i} s h =
-      let e : i ≡ length ts = omega (arith, s.far) in
-      let z : length ts - i ≡ 0 = omega arith in
-      let all : take i partners ≡ partners = take_all i partners (omega (arith, s.first-room)) in
-      let p : pairs_in 1 partners ≡ (paired ts us).pairs = rw (z, append-nil, all) at s.pairs in
-      record {
-        first-room = s.first-room;
-        second-room = s.second-room;
-        count-is = s.counted ∙ ap (λ (l : List ℕ). length (pairs_in 1 l)) all ∙ ap length p;
-        pairs_are = p;
-        first-left = rw (z, append-nil, all) at s.left-first;
-        second-left = rw z at s.left-second;
-      }
 
   -- ## One turn
 
@@ -209,7 +194,7 @@ module _ {ts us : List Ticket} {next partners taken cursors : List ℕ} {count i
 
   pub found_inside : good ≡ true → (r < length us) × (tipped_of us r ≤ tipped_of ts i + 120)
   found_inside y =
-      let b = both (ltb r (length us)) (leb (tipped_of us r) (tipped + 120)) (sym t.good_is ∙ y) in
+      let b = and_parts (ltb r (length us)) (leb (tipped_of us r) (tipped + 120)) (sym t.good_is ∙ y) in
       (ltb-true r (length us) b.0, omega (arith, leb-true (tipped_of us r) (tipped + 120) b.1, t.tipped_is))
 
   too-late : good ≡ false → r < length us → tipped_of us r ≤ tipped_of ts i + 120 → ⊥

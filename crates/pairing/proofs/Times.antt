@@ -8,7 +8,7 @@ use native.Mathlib.Omega.{arith}
 use lib.Dec.{eqb, ltb}
 use lib.ListN.{length, get_or, length-map}
 use borrow.Author.Tests.{eqb-true, eq-eqb, ltb-true, ltb-false}
-use Rattle.calls.proofs.Choices.{both, neither}
+use Rattle.std.proofs.lemmas.Bool.{and_parts, or_parts}
 use Rattle.tape_model.specs.declared.Ticket.{Ticket}
 use Rattle.tape_model.specs.Ticket.{no_ticket, in_form}
 use Rattle.trucks.proofs.Counting.{told}
@@ -30,9 +30,9 @@ behind : (t : Ticket) (ts : List Ticket) → falls_behind t ts ≡ false → (i 
 unfolding falls_behind
 behind t [] e i h q = absurd (omega arith)
 behind t (u ∷ us) e zero h q =
-    let n : falls_to t u ≡ false = (neither (falls_to t u) (falls_behind t us) e).0 in
+    let n : falls_to t u ≡ false = (or_parts (falls_to t u) (falls_behind t us) e).0 in
     ltb-false u.tipped t.tipped (rw (eq-eqb u.truck t.truck (sym q)) at n)
-behind t (u ∷ us) e (suc i) h q = behind t us (neither (falls_to t u) (falls_behind t us) e).1 i (omega arith) q
+behind t (u ∷ us) e (suc i) h q = behind t us (or_parts (falls_to t u) (falls_behind t us) e).1 i (omega arith) q
 
 -- later on the tape and of the same truck is not tipped earlier: for places counted from 0
 pub times_by-place : (ts : List Ticket) → times_fall ts ≡ false → (i j : ℕ) → i < j → j < length ts
@@ -40,8 +40,8 @@ pub times_by-place : (ts : List Ticket) → times_fall ts ≡ false → (i j : �
 unfolding times_fall
 times_by-place [] e i j h l q = absurd (omega arith)
 times_by-place (t ∷ ts) e i zero h l q = absurd (omega arith)
-times_by-place (t ∷ ts) e zero (suc j) h l q = behind t ts (neither (falls_behind t ts) (times_fall ts) e).0 j (omega arith) q
-times_by-place (t ∷ ts) e (suc i) (suc j) h l q = times_by-place ts (neither (falls_behind t ts) (times_fall ts) e).1 i j (omega arith) (omega arith) q
+times_by-place (t ∷ ts) e zero (suc j) h l q = behind t ts (or_parts (falls_behind t ts) (times_fall ts) e).0 j (omega arith) q
+times_by-place (t ∷ ts) e (suc i) (suc j) h l q = times_by-place ts (or_parts (falls_behind t ts) (times_fall ts) e).1 i j (omega arith) (omega arith) q
 
 -- and for positions counted from 1
 pub times_by_position : (ts : List Ticket) → times_fall ts ≡ false → (p q : ℕ) → 1 ≤ p → p < q → q ≤ length ts
@@ -58,7 +58,7 @@ unfolding falls_behind
 found-behind t [] e = absurd (false≢true e)
 found-behind t (u ∷ us) e =
     told (falls_to t u)
-    (λ q. let f = both _ _ q in (0, omega arith, sym (eqb-true _ _ f.0), ltb-true _ _ f.1))
+    (λ q. let f = and_parts _ _ q in (0, omega arith, sym (eqb-true _ _ f.0), ltb-true _ _ f.1))
     (λ q. let f = found-behind t us (rw q at e) in (suc f.0, omega arith, f.2, f.3))
 
 found : (ts : List Ticket) → times_fall ts ≡ true

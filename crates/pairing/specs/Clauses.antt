@@ -1,37 +1,20 @@
 -- What the code's answers stand for; and what its parts, which nobody else calls, are asked and give.
-use Rattle.std.specs.Prelude.{◌≡◌, Bool, false, ◌&&◌, List, [], ◌∷◌, ℕ, zero, suc, ◌+◌, ◌≤◌, ◌<◌, eqb, leb, ltb, length, get_or}
-use Rattle.calls.specs.Calls.{◌if◌else◌, is_refused, Reply, refused, done}
+use Rattle.std.specs.Prelude.{◌≡◌, Result, Bool, ◌&&◌, List, [], ◌∷◌, ℕ, zero, suc, ◌+◌, ◌≤◌, ◌<◌, leb, ltb, length, get_or}
+use Rattle.calls.specs.declared.Refusal.{Refusal}
+use Rattle.calls.specs.Calls.{as_reply}
 use Rattle.tape_model.specs.declared.Ticket.{Ticket}
 use Rattle.tape_model.specs.Ticket.{no_ticket}
 use Rattle.tape_model.specs.Tape.{plain_tickets, tickets_in}
-use Rattle.pairing.specs.declared.PairedTapes.{PairedTapes}
-use Rattle.pairing.specs.declared.PairedTapes.TheVariants.{Refused, Done}
-use Rattle.pairing.specs.Pairing.{seconds_apart, Pair, paired, times_fall, Outputs, Counts, pair_tapes}
+use Rattle.pairing.specs.Pairing.{seconds_apart, Pair, paired, Outputs, Counts, pair_tapes}
 
 -- ## The call
-
--- document 02's number and values for each case of the answer in code
-unfoldable pub paired_reply : PairedTapes → Reply Counts
-paired_reply (Refused n) = refused n
-paired_reply (Done pairs left_first left_second) = done (record { pairs = pairs; left_first = left_first; left_second = left_second })
 
 abbrev pub outputs : List ℕ → List ℕ → List ℕ → Outputs
 outputs pairs left_first left_second = record { pairs = pairs; left_first = left_first; left_second = left_second }
 
 -- the call's contract: with outputs that held `out`, its answer r and its outputs `after` are those of `pair_tapes`
-abbrev pub PairsTapes : (first second : List ℕ) → Outputs → PairedTapes → Outputs → Type 0
-PairsTapes first second out r after = record { answer = paired_reply r; out = after } ≡ pair_tapes first second out
-
--- ## Numbers
-
--- the number that refuses, or 0
-abbrev pub number_of : {A : Type 0} → Reply A → ℕ
-number_of (refused n) = n
-number_of (done a) = 0
-
--- of two numbers the smaller that is not 0
-abbrev pub first_number : ℕ → ℕ → ℕ
-first_number a b = b if eqb a 0 else a if eqb b 0 else a if leb a b else b
+abbrev pub PairsTapes : (first second : List ℕ) → Outputs → Result Counts Refusal → Outputs → Type 0
+PairsTapes first second out r after = record { answer = as_reply r; out = after } ≡ pair_tapes first second out
 
 -- ## Tickets by their place, counted from 0
 
@@ -44,10 +27,6 @@ truck_of ts i = (get_or ts i no_ticket).truck
 
 abbrev pub tipped_of : List Ticket → ℕ → ℕ
 tipped_of ts i = (get_or ts i no_ticket).tipped
-
--- plain bytes that hold tickets
-abbrev pub Holds : List ℕ → Type 0
-Holds plain = is_refused (plain_tickets plain) ≡ false
 
 -- r is the first place, from `start` on, of a ticket of this truck, or the number of tickets where there is none
 pub record FirstOf (us : List Ticket) (truck start r : ℕ) : Type 0 where
@@ -96,14 +75,10 @@ pairs_in k [] = []
 pairs_in k (zero ∷ l) = pairs_in (suc k) l
 pairs_in k (suc q ∷ l) = record { first = k; second = suc q } ∷ pairs_in (suc k) l
 
--- what the search for pairs asks
-pub record ToPair (first second partners taken : List ℕ) : Type 0 where
-  pub first-held : Holds first
-  pub second-held : Holds second
-  pub first_order : times_fall (tickets_of first) ≡ false
-  pub second_order : times_fall (tickets_of second) ≡ false
-  pub first-room : length partners ≡ length (tickets_of first)
-  pub second-room : length taken ≡ length (tickets_of second)
+-- what the search for pairs asks: an entry for each ticket, and no ticket of the second tape has a partner yet
+pub record ToPair (ts us : List Ticket) (partners taken : List ℕ) : Type 0 where
+  pub first-room : length partners ≡ length ts
+  pub second-room : length taken ≡ length us
   pub clear : (j : ℕ) → get_or taken j 0 ≡ 0
 
 -- and what it gives: how many pairs, and the partners on either tape

@@ -4,6 +4,7 @@ use Rattle.calls.specs.Calls.{◌if◌else◌, Reply, refused, done, map_replies
 use Rattle.tape_model.specs.declared.Ticket.{Ticket}
 use Rattle.tape_model.specs.Ticket.{no_ticket}
 use Rattle.tape_model.specs.Tape.{plain_tickets}
+pub use Rattle.pairing.specs.declared.Counts.{Counts}
 
 -- ## The rules
 
@@ -156,11 +157,6 @@ put found out =
     }
 
 -- how many pairs, and how many left over on either tape
-pub record Counts : Type 0 where
-  pub pairs : ℕ
-  pub left_first : ℕ
-  pub left_second : ℕ
-
 abbrev pub counts : Paired → Counts
 counts found = record { pairs = length found.pairs; left_first = length found.left_first; left_second = length found.left_second }
 

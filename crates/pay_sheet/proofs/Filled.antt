@@ -1,13 +1,14 @@
--- Lists of a number for each place: an array that is filled place by place, and the numbers of a tape, which fit 64 bits.
+-- Lists of a number for each place, their sum, and the numbers of a tape, which fit 64 bits.
 use mathlib.Core.Path.{◌≡◌, refl, sym, ap, ap₂, ◌∙◌}
 use mathlib.Core.List.{List, [], ◌∷◌, ◌++◌}
 use mathlib.Core.Logic.{⊎_elim}
 use Prim.Native.Nat.{ℕ, zero, suc, ◌+◌, ◌*◌, ◌≤◌, ◌<◌}
 use native.Mathlib.Omega.{arith}
-use native.Mathlib.Numerals.{add-one}
 use native.Mathlib.Nat.{mul-le-mul_left, le_trans}
-use lib.ListN.{length, take, set, length-append, get_or-append}
-use lib.Seq.{take-suc-set, take_all, get_or_at}
+use lib.ListN.{length, take, length-append, get_or-append}
+use lib.Seq.{take_all, get_or_at}
+use Rattle.std.specs.List.{sum}
+use Rattle.std.proofs.lemmas.List.Sums.{sum_by_more}
 use Rattle.pay_sheet.specs.PaySheet.{contractors, sum_to, each}
 use Rattle.pay_sheet.specs.Clauses.{at, InRange}
 use Rattle.pay_sheet.proofs.Sums.{below, sum_term}
@@ -30,13 +31,6 @@ each_same zero f g h = refl
 each_same (suc n) f g h = ap₂ (λ (l : List ℕ) (x : ℕ). l ++ (x ∷ [])) (each_same n f g (λ i l. h i (omega arith))) (h n (omega arith))
 
 -- the first c places hold f, and the next is set to f c
-pub filled_on : (f : ℕ → ℕ) (out : List ℕ) (c v : ℕ) → c < length out → take c out ≡ each c f → v ≡ f c → take (c + 1) (set out c v) ≡ each (c + 1) f
-unfolding each
-filled_on f out c v h p e = rw (add-one, take-suc-set, p, e)
-
-pub filled : (f : ℕ → ℕ) (out : List ℕ) (c n : ℕ) → length out ≡ n → c ≡ n → take c out ≡ each c f → out ≡ each n f
-filled f out c n l e p = sym (take_all c out (omega arith)) ∙ p ∙ ap (λ (k : ℕ). each k f) e
-
 -- ## The numbers of a tape
 
 module _ (nets : List ℕ) (rate : ℕ) (r : InRange nets rate) where
@@ -45,3 +39,12 @@ module _ (nets : List ℕ) (rate : ℕ) (r : InRange nets rate) where
 
   pub product_fits : (c : ℕ) → c < contractors → at nets c * rate ≤ 5242875000000000
   product_fits c h = le_trans (mul-le-mul_left (at nets c) r.rate_low) (omega (arith, sum_term contractors (at nets) c h, r.weight))
+
+-- the sum of a list's numbers, place by place
+pub sum_to-all : (ns : List ℕ) (n : ℕ) → n ≤ length ns → sum_to n (at ns) ≡ sum (take n ns)
+unfolding sum_to
+sum_to-all ns zero h = refl
+sum_to-all ns (suc n) h = omega (arith, sum_to-all ns n (omega arith), sum_by_more (λ (x : ℕ). x) ns n 0 (omega arith), ap (λ (k : ℕ). sum (take k ns)) {x = suc n} {y = n + 1} (omega arith))
+
+pub sum_to-sum : (ns : List ℕ) (n : ℕ) → length ns ≡ n → sum_to n (at ns) ≡ sum ns
+sum_to-sum ns n e = sum_to-all ns n (omega arith) ∙ ap sum (take_all n ns (omega arith))

@@ -1,6 +1,8 @@
 pub mod Sums
 pub mod Ranks
 pub mod Filled
+pub mod Calls
+pub mod Counted
 pub mod Hauled
 pub mod Remaining
 pub mod Opened

@@ -2,18 +2,17 @@
 use mathlib.Core.Path.{◌≡◌, refl, sym, ap, ap₂, ◌∙◌}
 use mathlib.Core.Bool.{Bool}
 use mathlib.Core.List.{List}
-use Prim.Native.Nat.{ℕ, zero, suc, ◌+◌, ◌-◌, ◌*◌, ◌/◌, ◌%◌, ◌^◌, ◌≤◌, ◌<◌}
+use Prim.Native.Nat.{ℕ, ◌+◌, ◌-◌, ◌*◌, ◌/◌, ◌%◌, ◌^◌, ◌≤◌, ◌<◌}
 use native.Mathlib.Omega.{arith}
 use lib.Dec.{ltb}
 use borrow.Author.Tests.{lt-ltb, le-ltb}
-use Rattle.calls.specs.Calls.{◌if◌else◌, Reply, refused, done, map_reply, unless_refused, reply_of}
+use Rattle.calls.specs.Calls.{◌if◌else◌, Reply, refused, done, map_reply}
 use Rattle.tape_model.specs.declared.Ticket.{Ticket}
 use Rattle.tape_model.specs.Tape.{plain_tickets, total_net, of_plain}
 use Rattle.trucks.specs.Words.{one}
 use Rattle.trucks.proofs.Counting.{count_same}
-use Rattle.pay_sheet.specs.declared.TapePay.TheVariants.{Done}
-use Rattle.pay_sheet.specs.PaySheet.{contractors, net_of, sum_to, each, comes_before, rank, pay, exact_share, whole_cents, remainder, cents_left, share, Sheet, sheet_of, highest_rate, pay_sheet}
-use Rattle.pay_sheet.specs.Clauses.{at, nets_of, InRange, SharesBy, sheet_reply, without_pay, answered}
+use Rattle.pay_sheet.specs.PaySheet.{contractors, net_of, sum_to, each, comes_before, rank, pay, exact_share, whole_cents, remainder, cents_left, share, sheet_of, highest_rate, pay_sheet}
+use Rattle.pay_sheet.specs.Clauses.{at, nets_of, InRange, SharesBy}
 use Rattle.pay_sheet.specs.Laws.{HaveContractors}
 use Rattle.pay_sheet.proofs.Sums.{sum_eq, sum_mul}
 use Rattle.pay_sheet.proofs.Filled.{each_at, each_same, total-fits, product_fits}
@@ -78,42 +77,34 @@ nets_total ts e h =
 
 -- ## The answers
 
--- number and sheet of an answer
-pub reply-of : (r : Reply Sheet) → sheet_reply (answered r) ≡ r
-unfolding sheet_reply
-reply-of (refused n) = refl
-reply-of (done sheet) = refl
-
 module _ (plain : List ℕ) (rate : ℕ) where
-  pub too_high : highest_rate < rate → without_pay 13 ≡ answered (pay_sheet plain rate)
+  pub too_high : highest_rate < rate → refused 13 ≡ pay_sheet plain rate
   unfolding pay_sheet
-  too_high h = ap (λ (b : Bool). answered (refused 13 if b else of_plain (sheet_of rate) plain)) (sym (lt-ltb highest_rate rate h))
+  too_high h = ap (λ (b : Bool). refused 13 if b else of_plain (sheet_of rate) plain) (sym (lt-ltb highest_rate rate h))
 
   pub not_too_high : rate ≤ highest_rate → pay_sheet plain rate ≡ of_plain (sheet_of rate) plain
   unfolding pay_sheet
   not_too_high h = ap (λ (b : Bool). refused 13 if b else of_plain (sheet_of rate) plain) (le-ltb highest_rate rate h)
 
-  -- n and nets: what was found on the tape
-  module _ (low : rate ≤ highest_rate) (n : ℕ) (nets : List ℕ) (found : reply_of n nets ≡ of_plain nets_of plain) where
-    pub sent_back : (n ≡ 0 → ⊥) → without_pay n ≡ answered (pay_sheet plain rate)
-    unfolding of_plain map_reply unless_refused
-    sent_back some = by n some (plain_tickets plain) found ∙ ap answered (sym (not_too_high low))
+  module _ (low : rate ≤ highest_rate) where
+    -- the number that the tape has
+    pub sent_back : (n : ℕ) → refused n ≡ of_plain nets_of plain → refused n ≡ pay_sheet plain rate
+    unfolding of_plain map_reply
+    sent_back n found = by (plain_tickets plain) found ∙ sym (not_too_high low)
       where
-        by : (m : ℕ) → (m ≡ 0 → ⊥) → (r : Reply (List Ticket)) → reply_of m nets ≡ map_reply nets_of r → without_pay m ≡ answered (map_reply (sheet_of rate) r)
-        by zero z r e = absurd (z refl)
-        by (suc m) z (refused k) e = ap without_pay (let same : suc m ≡ k = cc in same)
-        by (suc m) z (done ts) e = absurd (let z : ◌≡◌ {A = ℕ} 0 1 = cc in omega arith)
+        by : (r : Reply (List Ticket)) → refused n ≡ map_reply nets_of r → refused n ≡ map_reply (sheet_of rate) r
+        by (refused k) e = ap refused (let same : n ≡ k = cc in same)
+        by (done ts) e = absurd (let z : ◌≡◌ {A = ℕ} 0 1 = cc in omega arith)
 
-    pub paid_for : n ≡ 0 → (p : ℕ) (shares : List ℕ) → p ≡ sum_to contractors (at nets) * rate / 1000 → SharesBy nets rate shares
-        → record { answer = Done p; shares = shares } ≡ answered (pay_sheet plain rate)
-    unfolding of_plain map_reply unless_refused sheet_of pay
-    paid_for none p shares paid shared = by n none (plain_tickets plain) refl found ∙ ap answered (sym (not_too_high low))
+    -- the nets that were found on it
+    pub paid_for : (nets : List ℕ) → done nets ≡ of_plain nets_of plain → (p : ℕ) (shares : List ℕ) → p ≡ sum_to contractors (at nets) * rate / 1000 → SharesBy nets rate shares
+        → done (record { pay = p; shares = shares }) ≡ pay_sheet plain rate
+    unfolding of_plain map_reply sheet_of pay
+    paid_for nets found p shares paid shared = by (plain_tickets plain) refl found ∙ sym (not_too_high low)
       where
-        by : (m : ℕ) → m ≡ 0 → (r : Reply (List Ticket)) → plain_tickets plain ≡ r → reply_of m nets ≡ map_reply nets_of r
-            → record { answer = Done p; shares = shares } ≡ answered (map_reply (sheet_of rate) r)
-        by (suc m) z r h e = absurd (omega arith)
-        by zero z (refused k) h e = absurd (let z : ◌≡◌ {A = ℕ} 0 1 = cc in omega arith)
-        by zero z (done ts) h e =
+        by : (r : Reply (List Ticket)) → plain_tickets plain ≡ r → done nets ≡ map_reply nets_of r → done (record { pay = p; shares = shares }) ≡ map_reply (sheet_of rate) r
+        by (refused k) h e = absurd (let z : ◌≡◌ {A = ℕ} 0 1 = cc in omega arith)
+        by (done ts) h e =
             let same : nets ≡ nets_of ts = cc in
             let total = nets_total ts same (valid-contractors ts (held-valid plain ts h)) in
-            ap₂ (λ (k : ℕ) (l : List ℕ). record { answer = Done k; shares = l }) (paid ∙ ap (λ (k : ℕ). k * rate / 1000) total) (shared ts same total)
+            ap₂ (λ (k : ℕ) (l : List ℕ). done (record { pay = k; shares = l })) (paid ∙ ap (λ (k : ℕ). k * rate / 1000) total) (shared ts same total)

@@ -13,8 +13,9 @@ use Rattle.calls.specs.Calls.{◌if◌else◌, Reply, refused, done, map_reply}
 use Rattle.calls.proofs.Choices.{lt_or_ge, if_equal, if_unequal}
 use Rattle.tape_model.specs.declared.Ticket.{Ticket}
 use Rattle.tape_model.specs.declared.Head.{Head}
+use Rattle.tape_model.specs.declared.Totals.{Totals}
 use Rattle.tape_model.specs.Ticket.{in_form, ticket_length, net}
-use Rattle.tape_model.specs.Tape.{ticket_limit, pack_tickets, is_tickets_length, plain_tickets, total_net, Totals, of_plain}
+use Rattle.tape_model.specs.Tape.{ticket_limit, pack_tickets, is_tickets_length, plain_tickets, total_net, of_plain}
 use Rattle.tape_model.specs.Laws.{OpensAs}
 use Rattle.tape_model.proofs.Tickets.{ticket_laws}
 use Rattle.tape_model.proofs.Plain.{plain-laws, of_plain-laws}

@@ -4,7 +4,6 @@ use mathlib.Core.Bool.{Bool, true, false}
 use mathlib.Core.Logic.{◌⊎◌, inl, inr, ⊎_elim}
 use Prim.Native.Nat.{ℕ, zero, suc, ◌+◌, ◌*◌, ◌/◌, ◌%◌, ◌≤◌, ◌<◌}
 use native.Mathlib.Omega.{arith}
-use native.Mathlib.Numerals.{add-one}
 use native.Mathlib.Decide.{dec_lt}
 use Rattle.trucks.specs.Words.{one, count}
 use Rattle.pay_sheet.specs.PaySheet.{sum_to}
@@ -48,12 +47,6 @@ pub sum_term : (n : ℕ) (f : ℕ → ℕ) (i : ℕ) → i < n → f i ≤ sum_t
 unfolding sum_to
 sum_term zero f i h = absurd (omega arith)
 sum_term (suc n) f i h = ⊎_elim (λ l. omega (arith, sum_term n f i l)) (λ e. omega (arith, ap f e)) (below i n h)
-
--- one more place, within a longer sum
-pub sum_prefix : (n : ℕ) (f : ℕ → ℕ) (i : ℕ) → i < n → sum_to i f + f i ≤ sum_to n f
-unfolding sum_to
-sum_prefix zero f i h = absurd (omega arith)
-sum_prefix (suc n) f i h = ⊎_elim (λ l. omega (arith, sum_prefix n f i l)) (λ e. omega (arith, ap f e, ap (λ (k : ℕ). sum_to k f) e)) (below i n h)
 
 -- numbers none of which is above another's, with the same sum, are the same
 pub sum_same : (n : ℕ) (f g : ℕ → ℕ) → ((i : ℕ) → i < n → f i ≤ g i) → sum_to n f ≡ sum_to n g → (i : ℕ) → i < n → f i ≡ g i
@@ -109,12 +102,3 @@ count-both_le n p q r f g h =
       sum_add n (λ i. one (p i)) (λ i. one (q i)),
       sum_le n (λ i. one (p i) + one (q i)) (λ i. one (r i)) (λ i l. one-add (p i) (q i) (r i) (f i l) (g i l) (h i l)),
     )
-
--- counting on: the next place passes the test, or does not
-pub count_more : (test : ℕ → Bool) (d n m : ℕ) → n ≡ count d test → test d ≡ true → m ≡ n + 1 → m ≡ count (d + 1) test
-unfolding count
-count_more test d n m e p q = simp add-one (omega (arith, one-true _ p))
-
-pub count-on : (test : ℕ → Bool) (d n m : ℕ) → n ≡ count d test → test d ≡ false → m ≡ n → m ≡ count (d + 1) test
-unfolding count
-count-on test d n m e p q = simp add-one (omega (arith, one-false _ p))

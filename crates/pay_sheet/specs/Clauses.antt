@@ -1,11 +1,11 @@
 -- What the code's arrays and answers stand for.
-use Rattle.std.specs.Prelude.{◌≡◌, List, ℕ, ◌*◌, ◌≤◌, get_or, replicate}
+use Rattle.std.specs.Prelude.{◌≡◌, List, ℕ, ◌*◌, ◌≤◌, get_or, replicate, Result, Ok, Err}
+use Rattle.calls.specs.declared.Refusal.{Refusal}
+use Rattle.calls.specs.Refusals.{refusal_number}
 use Rattle.calls.specs.Calls.{Reply, refused, done}
 use Rattle.tape_model.specs.declared.Ticket.{Ticket}
 use Rattle.tape_model.specs.Tape.{ticket_limit, total_net}
 use Rattle.pay_sheet.specs.declared.PaySheet.{PaySheet}
-use Rattle.pay_sheet.specs.declared.TapePay.TheVariants.{Refused, Done}
-use Rattle.pay_sheet.specs.declared.TapePay.{TapePay}
 use Rattle.pay_sheet.specs.PaySheet.{contractors, net_of, sum_to, each, share, Sheet, highest_rate}
 
 -- ## Document 02's number and sheet for each case of the answer in code
@@ -13,17 +13,17 @@ use Rattle.pay_sheet.specs.PaySheet.{contractors, net_of, sum_to, each, share, S
 unfoldable pub sheet_reply : PaySheet → Reply Sheet
 sheet_reply r = by r.answer
   where
-    by : TapePay → Reply Sheet
-    by (Refused n) = refused n
-    by (Done pay) = done (record { pay = pay; shares = r.shares })
+    by : Result ℕ Refusal → Reply Sheet
+    by (Err refusal) = refused (refusal_number refusal)
+    by (Ok pay) = done (record { pay = pay; shares = r.shares })
 
--- and the answer for each of them: the shares are zeros where there is a number
-abbrev pub without_pay : ℕ → PaySheet
-without_pay n = record { answer = Refused n; shares = replicate contractors 0 }
+-- a refused sheet, and the shares on every sheet: zeros where it is refused
+abbrev pub without_pay : Refusal → PaySheet
+without_pay refusal = record { answer = Err refusal; shares = replicate contractors 0 }
 
-abbrev pub answered : Reply Sheet → PaySheet
-answered (refused n) = without_pay n
-answered (done sheet) = record { answer = Done sheet.pay; shares = sheet.shares }
+abbrev pub shares_or_zeros : Reply Sheet → List ℕ
+shares_or_zeros (refused n) = replicate contractors 0
+shares_or_zeros (done sheet) = sheet.shares
 
 -- ## What the private functions cite
 

@@ -3,8 +3,9 @@ use Rattle.std.specs.Prelude.{◌≡◌, true, false, List, [], ◌∷◌, ◌++
 use Rattle.calls.specs.Calls.{refused, done}
 use Rattle.tape_model.specs.declared.Ticket.{Ticket}
 use Rattle.tape_model.specs.declared.Head.{Head}
+use Rattle.tape_model.specs.declared.Totals.{Totals}
 use Rattle.tape_model.specs.Ticket.{ticket_length, net}
-use Rattle.tape_model.specs.Tape.{ticket_limit, pack_tickets, is_tickets_length, plain_tickets, total_net, Totals}
+use Rattle.tape_model.specs.Tape.{ticket_limit, pack_tickets, is_tickets_length, plain_tickets, total_net}
 use Rattle.tape_model.specs.Laws.{Valid, OpensAs}
 use Rattle.forms.specs.Laws.{AlikeButForms}
 use Rattle.pay_sheet.specs.PaySheet.{contractors, contractor_of, net_of, sum_to, comes_before, pay, exact_share, whole_cents, remainder, cents_left, share, Sheet, sheet_of, highest_rate, pay_sheet}

@@ -9,9 +9,10 @@ use lib.Seq.{take_at, drop_at}
 use Rattle.calls.specs.Calls.{refused, done, written_over}
 use Rattle.acorn_model.specs.Machine.{key_length}
 use Rattle.tape_model.specs.declared.Ticket.{Ticket}
+use Rattle.tape_model.specs.declared.Totals.{Totals}
 use Rattle.tape_model.specs.declared.Head.{Head}
 use Rattle.tape_model.specs.Ticket.{head_rule, ticket_length}
-use Rattle.tape_model.specs.Tape.{ticket_limit, pack_tickets, tape_of, plain_tickets, Totals, open_tape}
+use Rattle.tape_model.specs.Tape.{ticket_limit, pack_tickets, tape_of, plain_tickets, open_tape}
 use Rattle.tape_model.specs.Listing.{line_end, decimal}
 use Rattle.tape_model.specs.Laws.{Valid}
 use Rattle.tape_model.proofs.Tapes.{tickets-length, tapes_come_back}

@@ -7,9 +7,11 @@ use Prim.Native.Nat.{ℕ, zero, suc, min, ◌+◌, ◌-◌, ◌*◌, ◌^◌, �
 use native.Mathlib.Nat.{pow-suc, pow-le-pow_right}
 use native.Mathlib.Omega.{arith}
 use lib.Dec.{leb}
-use lib.ListN.{length, get_or, take, drop, drop_of_length-le, get_or-eq_default}
-use lib.Seq.{drop-cons, take-suc, length-take-le, get_or-take, take_at, drop-append-add, get_or-append_seam}
+use lib.ListN.{length, get_or, take, get_or-eq_default}
+use lib.Seq.{take-suc, length-take-le, get_or-take, take_at, drop-append-add, get_or-append_seam}
 use borrow.Author.Tests.{leb-true, eqb-true, le-leb}
+use Rattle.std.specs.List.{prefix_len}
+use Rattle.std.specs.Char.{is_ascii_digit}
 use Rattle.calls.specs.Calls.{◌if◌else◌}
 use Rattle.calls.proofs.Choices.{lt_or_ge, both}
 use Rattle.tape_model.specs.Listing.{line_end, decimal}
@@ -61,18 +63,15 @@ counted_digit (x ∷ l) i h = by (is_digit x) refl (counted_digit l) i h
     by true e others (suc j) h = others j (omega arith)
     by false e others j h = absurd (omega arith)
 
--- from place n on
-module _ (l : List ℕ) (n : ℕ) where
-  pub count_more : n < length l → is_digit (get_or l n 0) ≡ true → digit_count (drop n l) ≡ suc (digit_count (drop (n + 1) l))
-  count_more here e =
-      ap digit_count (drop-cons l n 0 here) ∙ digit_first (get_or l n 0) (drop (suc n) l) e ∙ ap (λ (k : ℕ). suc (digit_count (drop k l))) {x = suc n} {y = n + 1} (omega arith)
-
-  pub count_stops : n < length l → is_digit (get_or l n 0) ≡ false → digit_count (drop n l) ≡ 0
-  count_stops here e = ap digit_count (drop-cons l n 0 here) ∙ other_first (get_or l n 0) (drop (suc n) l) e
-
-  pub count_ends : length l ≤ n → digit_count (drop n l) ≡ 0
-  unfolding digit_count
-  count_ends h = ap digit_count (drop_of_length-le l h)
+-- std's test of a digit, and its count of those that a list begins with
+pub counted : (l : List ℕ) → prefix_len is_ascii_digit l ≡ digit_count l
+unfolding digit_count
+counted [] = refl
+counted (x ∷ l) = by (is_digit x) (counted l)
+  where
+    by : (b : Bool) → prefix_len is_ascii_digit l ≡ digit_count l → (1 + prefix_len is_ascii_digit l if b else 0) ≡ (suc (digit_count l) if b else 0)
+    by true e = omega arith
+    by false e = refl
 
 -- ## The number that digits make
 

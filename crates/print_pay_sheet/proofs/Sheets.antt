@@ -10,9 +10,10 @@ use borrow.Author.Tests.{lt-ltb, le-ltb, ne_eqb}
 use Rattle.calls.specs.Calls.{◌if◌else◌, Reply, refused, done, map_reply, unless_refused}
 use Rattle.calls.proofs.Results.{refused_told}
 use Rattle.tape_model.specs.declared.Ticket.{Ticket}
+use Rattle.tape_model.specs.declared.Totals.{Totals}
 use Rattle.acorn_model.specs.Machine.{key_length}
 use Rattle.tape_model.specs.Ticket.{ticket_length}
-use Rattle.tape_model.specs.Tape.{ticket_limit, empty_tape_length, plain_tickets, of_plain, Totals, plain_bytes, open_tape_refusal, open_tape}
+use Rattle.tape_model.specs.Tape.{ticket_limit, empty_tape_length, plain_tickets, of_plain, plain_bytes, open_tape_refusal, open_tape}
 use Rattle.tape_model.proofs.Opening.{was_accepted, front}
 use Rattle.listing.proofs.Inputs.{long_number}
 use Rattle.pay_sheet.specs.PaySheet.{contractors, Sheet, highest_rate, share, sheet_of, pay_sheet}

@@ -1,43 +1,20 @@
 -- The text of a sheet, line by line, and how long it is.
-use mathlib.Core.Path.{◌≡◌, refl, sym, ap, ◌∙◌}
+use mathlib.Core.Path.{◌≡◌, sym, ap, ◌∙◌}
 use mathlib.Core.List.{List, [], ◌∷◌, ◌++◌, append_assoc, append-nil}
-use Prim.Native.Nat.{ℕ, suc, ◌+◌, ◌-◌, ◌*◌, ◌/◌, ◌%◌, ◌^◌, ◌≤◌, ◌<◌}
+use Prim.Native.Nat.{ℕ, suc, ◌+◌, ◌-◌, ◌*◌, ◌^◌, ◌≤◌, ◌<◌}
 use native.Mathlib.Omega.{arith}
 use lib.ListN.{length, get_or, take, drop, length-append, take-append-drop}
 use lib.Seq.{take-suc, length-take-le}
 use borrow.Rule.Slice.PartMut.{put_mid}
-use Rattle.calls.specs.Calls.{Reply, refused, done}
 use Rattle.tape_model.specs.Listing.{line_end, decimal, numbers, refused_line}
-use Rattle.tape_model.proofs.Listing.{decimal-one, decimal_more, decimal-length}
+use Rattle.tape_model.proofs.Listing.{decimal-length}
 use Rattle.listing.specs.Clauses.{Wrote}
 use Rattle.listing.proofs.Texts.{wrote_as, behind-start, behind-room, behind-wrote, behind-within}
 use Rattle.listing.proofs.LineLengths.{digits_room, refused_length, one_number}
-use Rattle.pay_sheet.specs.PaySheet.{contractors, Sheet}
-use Rattle.pay_sheet.specs.Clauses.{answered}
-use Rattle.print_pay_sheet.specs.Printed.{word_pay, contractor_lines, sheet_text}
-use Rattle.print_pay_sheet.specs.Clauses.{share_line, paid_text, text_of}
+use Rattle.pay_sheet.specs.PaySheet.{contractors}
+use Rattle.print_pay_sheet.specs.Printed.{word_pay, contractor_lines}
+use Rattle.print_pay_sheet.specs.Clauses.{share_line, paid_text}
 use Rattle.print_pay_sheet.specs.Laws.{text_room}
-
--- ## A contractor's number
-
-number-one : (c : ℕ) → c < 10 → (0x30 + c) ∷ [] ≡ decimal c
-number-one c h = sym (decimal-one c h)
-
-number_two : (c : ℕ) → 10 ≤ c → c < contractors → 0x31 ∷ (0x30 + (c - 10)) ∷ [] ≡ decimal c
-number_two c l h =
-    let tens : c / 10 ≡ 1 = omega arith in
-    let ones : c - 10 ≡ c % 10 = omega arith in
-    sym
-    (decimal_more c l (omega arith)
-    ∙ ap (λ (ds : List ℕ). ds ++ ((0x30 + c % 10) ∷ [])) (ap decimal tens ∙ decimal-one 1 (omega arith))
-    ∙ ap (λ (n : ℕ). 0x31 ∷ (0x30 + n) ∷ []) (sym ones))
-
-module _ (c share : ℕ) where
-  pub line-one : c < 10 → ((0x30 + c) ∷ []) ++ numbers (share ∷ []) ++ line_end ≡ share_line c share
-  line-one h = ap (λ (word : List ℕ). word ++ numbers (share ∷ []) ++ line_end) (number-one c h)
-
-  pub line_two : 10 ≤ c → c < contractors → (0x31 ∷ (0x30 + (c - 10)) ∷ []) ++ numbers (share ∷ []) ++ line_end ≡ share_line c share
-  line_two l h = ap (λ (word : List ℕ). word ++ numbers (share ∷ []) ++ line_end) (number_two c l h)
 
 -- ## How long lines are
 
@@ -108,10 +85,3 @@ module _ (shares out mid : List ℕ) (c n : ℕ) (here : c < length shares) (roo
 
     pub line-within : n + r ≤ length out
     line-within = behind-within (contractor_lines 0 (take c shares)) line out mid n with_it so_far r part w
-
--- ## The text of an answered sheet
-
-pub text-of : (r : Reply Sheet) → text_of (answered r) ≡ sheet_text r
-unfolding text_of sheet_text
-text-of (refused n) = refl
-text-of (done sheet) = refl

@@ -1,9 +1,6 @@
 -- What the program's private functions cite.
 use Rattle.std.specs.Prelude.{List, [], ◌∷◌, ◌++◌, ℕ, ◌≤◌, ◌<◌, length, get_or}
-use Rattle.tape_model.specs.Listing.{line_end, decimal, numbers, refused_line}
-use Rattle.pay_sheet.specs.declared.PaySheet.{PaySheet}
-use Rattle.pay_sheet.specs.declared.TapePay.{TapePay}
-use Rattle.pay_sheet.specs.declared.TapePay.TheVariants.{Refused, Done}
+use Rattle.tape_model.specs.Listing.{line_end, decimal, numbers}
 use Rattle.print_pay_sheet.specs.Printed.{most_digits, word_pay, contractor_lines}
 
 -- as many decimal digits as a rate has, and nothing else
@@ -19,11 +16,3 @@ share_line c share = decimal c ++ numbers (share ∷ []) ++ line_end
 -- the line of the pay, and the contractors'
 abbrev pub paid_text : ℕ → List ℕ → List ℕ
 paid_text pay shares = word_pay ++ numbers (pay ∷ []) ++ line_end ++ contractor_lines 0 shares
-
--- the text of an answered sheet
-abbrev pub answer_text : TapePay → List ℕ → List ℕ
-answer_text (Refused n) shares = refused_line n
-answer_text (Done pay) shares = paid_text pay shares
-
-unfoldable pub text_of : PaySheet → List ℕ
-text_of sheet = answer_text sheet.answer sheet.shares

@@ -3,9 +3,10 @@ use Rattle.std.specs.Prelude.{◌≡◌, true, false, List, ◌++◌, ℕ, ◌+�
 use Rattle.calls.specs.Calls.{refused, done}
 use Rattle.acorn_model.specs.Machine.{key_length}
 use Rattle.tape_model.specs.declared.Ticket.{Ticket}
+use Rattle.tape_model.specs.declared.Totals.{Totals}
 use Rattle.tape_model.specs.declared.Head.{Head}
 use Rattle.tape_model.specs.Ticket.{ticket_length, head_rule}
-use Rattle.tape_model.specs.Tape.{ticket_limit, empty_tape_length, tape_of, plain_tickets, Totals, open_tape}
+use Rattle.tape_model.specs.Tape.{ticket_limit, empty_tape_length, tape_of, plain_tickets, open_tape}
 use Rattle.tape_model.specs.Listing.{line_end, decimal, refused_line}
 use Rattle.tape_model.specs.Laws.{Valid}
 use Rattle.pay_sheet.specs.PaySheet.{sheet_of, highest_rate}

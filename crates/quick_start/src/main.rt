@@ -4,108 +4,92 @@
 ghost use Rattle.std.specs.Prelude.{◌≡◌, length};
 ghost use Rattle.tape_model.specs.Reader.{read_next, reader_over, next_reply};
 
-use calls::Answer;
+use calls::{Answer, Refusal};
 use reader::Reader;
-use std::io;
-use tape_model::{Head, NextTicket, OpenedTape, Ticket};
+use std::{fmt, io};
+use tape_model::{Head, Ticket};
 use tape_opening::open_tape;
-use tape_writer::{Writer, WriterReply};
+use tape_writer::Writer;
 
-// Whether a call was refused; then its number is printed.
-fn refused(rt: &impl Print, reply: WriterReply) -> io::Result<bool> {
-    let answer = reply.answer;
-    match answer {
-        Answer::Refused(number) => {
-            print_refused(rt, number)?;
-            Ok(true)
+// Bytes in hexadecimal.
+#[derive(Clone, Copy)]
+struct Hex<'a>(&'a [u8]);
+
+impl fmt::Display for Hex<'_> {
+    fn fmt<W: fmt::Write>(&self, f: &mut fmt::Formatter<W>) -> fmt::Result {
+        for byte in self.0 {
+            write!(f, "{byte:02x}")?;
         }
-        Answer::Done(_, _) => Ok(false),
+        Ok(())
     }
 }
 
-fn print_refused(rt: &impl Print, number: u8) -> io::Result<()> {
-    println!(rt; "refused {number}")
-}
-
-fn print_byte(rt: &impl Print, b: u8) -> io::Result<()> {
-    print!(rt; "{b:02x}")
-}
-
-fn print_tape(rt: &impl Print, tape: &[u8]) -> io::Result<()> {
-    print!(rt; "tape ")?;
-    for i in 0..tape.len() {
-        print_byte(rt, tape[i])?;
+// What sent a call back, if anything did.
+fn done(answer: Answer) -> Result<(), Refusal> {
+    match answer {
+        Answer::Refused(refusal) => Err(refusal),
+        Answer::Done(_, _) => Ok(()),
     }
-    println!(rt)
 }
 
-fn print_ticket(rt: &impl Print, number: u64, t: Ticket) -> io::Result<()> {
-    println!(rt;
-        "ticket {number}: truck {}, net {} kg",
-        t.truck,
-        ticket::net(t)
-    )
-}
-
-fn print_totals(rt: &impl Print, tickets: usize, net: u64) -> io::Result<()> {
-    println!(rt; "tickets {tickets}, net {net} kg")
-}
-
-// Writes the tape of one ticket: 9 bytes of head, 13 of the ticket, 16 of tag. Says whether that was done.
-fn write_tape(
-    rt: &impl Print,
-    key: &[u8],
-    head: Head,
-    ticket: Ticket,
-    tape: &mut [u8],
-) -> io::Result<bool>
+// Writes the tape of one ticket: 9 bytes of head, 13 of the ticket, 16 of tag.
+fn write_tape(key: &[u8], head: Head, ticket: Ticket, tape: &mut [u8]) -> Result<(), Refusal>
     requires { length tape.old ≡ 38 }
 {
     let started = Writer::fresh().start(key, head, tape);
     let added = started.writer.add(ticket, &mut tape[9..]);
     let finished = added.writer.finish(&mut tape[22..]);
-    Ok(!(refused(rt, started)? || refused(rt, added)? || refused(rt, finished)?))
+    done(started.answer)?;
+    done(added.answer)?;
+    done(finished.answer)
 }
 
-// What a reader hands out first and then.
-#[derive(Clone, Copy)]
-struct Readings {
-    first: NextTicket,
-    second: NextTicket,
-}
-
-// Reads opened bytes twice: of one ticket, the ticket and then the end.
-fn read_two(plain: &[u8]) -> Readings
-    ensures { (next_reply result.first ≡ (read_next (reader_over plain.now)).answer)
-        × (next_reply result.second ≡ (read_next (read_next (reader_over plain.now)).next).answer) }
+// What a reader hands out first and then: of the opened bytes of one ticket, the ticket and then the end.
+fn read_two(
+    plain: &[u8],
+) -> (
+    Result<Option<Ticket>, Refusal>,
+    Result<Option<Ticket>, Refusal>,
+)
+    ensures { (next_reply result.0 ≡ (read_next (reader_over plain.now)).answer)
+        × (next_reply result.1 ≡ (read_next (read_next (reader_over plain.now)).next).answer) }
 {
     let a = Reader::new(plain).next();
     let b = a.reader.next();
-    Readings {
-        first: a.answer,
-        second: b.answer,
-    }
+    (a.answer, b.answer)
 }
 
-fn print_reading(rt: &impl Print, number: u64, reading: NextTicket) -> io::Result<()> {
+fn print_refused(rt: &impl Print, refusal: Refusal) -> io::Result<()> {
+    println!(rt; "refused {refusal}")
+}
+
+fn print_reading(
+    rt: &impl Print,
+    number: u64,
+    reading: Result<Option<Ticket>, Refusal>,
+) -> io::Result<()> {
     match reading {
-        NextTicket::Refused(refusal) => print_refused(rt, refusal),
-        NextTicket::Done(ticket) => print_ticket(rt, number, ticket),
-        NextTicket::End => Ok(()),
+        Ok(Some(t)) => {
+            println!(rt;
+                "ticket {number}: truck {}, net {} kg",
+                t.truck,
+                ticket::net(t)
+            )
+        }
+        Ok(None) => Ok(()),
+        Err(refusal) => print_refused(rt, refusal),
     }
 }
 
 // Opens a tape into plain, and prints its tickets, of at most two, and the totals.
 fn read_tape(rt: &impl Print, key: &[u8], tape: &[u8], plain: &mut [u8]) -> io::Result<()> {
     match open_tape(key, tape, plain) {
-        OpenedTape::Refused(number) => print_refused(rt, number),
-        OpenedTape::Done(tickets, net) => {
-            let readings = read_two(&plain[..13 * tickets]);
-            let first = readings.first;
-            let second = readings.second;
+        Err(refusal) => print_refused(rt, refusal),
+        Ok(totals) => {
+            let (first, second) = read_two(&plain[..13 * totals.tickets]);
             print_reading(rt, 1, first)?;
             print_reading(rt, 2, second)?;
-            print_totals(rt, tickets, net)
+            println!(rt; "tickets {}, net {} kg", totals.tickets, totals.net)
         }
     }
 }
@@ -130,9 +114,11 @@ fn main(rt: HostRuntime) -> io::Result<()> {
     };
     let mut tape = [0; 38];
     let mut plain = [0; 13];
-    if write_tape(&rt, key, head, ticket, &mut tape)? {
-        print_tape(&rt, &tape)?;
-        read_tape(&rt, key, &tape, &mut plain)?;
+    match write_tape(key, head, ticket, &mut tape) {
+        Err(refusal) => print_refused(&rt, refusal),
+        Ok(()) => {
+            println!(rt; "tape {}", Hex(&tape))?;
+            read_tape(&rt, key, &tape, &mut plain)
+        }
     }
-    Ok(())
 }

@@ -4,20 +4,21 @@ use mathlib.Core.Bool.{Bool, true, false, not}
 use mathlib.Core.List.{List, [], ◌∷◌, ◌++◌}
 use Prim.Native.Nat.{ℕ, zero, suc, ◌+◌, ◌*◌, ◌/◌, ◌≤◌, ◌<◌}
 use native.Mathlib.Omega.{arith}
-use lib.Dec.{leb}
+use lib.Dec.{eqb, leb}
 use lib.ListN.{length, take, drop}
 use lib.Seq.{take-nil, take_at, drop-drop}
 use denote.Ref.{Bor}
-use Rattle.calls.specs.Calls.{◌if◌else◌, Reply, refused, done, written_over, unless_refused, is_refused}
+use Rattle.std.proofs.Common.{Result, Ok, Err, Option, Some, None}
+use Rattle.calls.specs.declared.Refusal.{Refusal}
+use Rattle.calls.specs.declared.Refusal.TheVariants.{WrongLength, TicketUnreadable}
+use Rattle.calls.specs.Calls.{◌if◌else◌, Reply, refused, done, accepted, reply_of, as_reply, written_over, unless_refused, is_refused}
 use Rattle.acorn_model.specs.Machine.{key_length}
 use Rattle.acorn_model.specs.RefusalCases.{string}
 use Rattle.tape_model.specs.declared.Ticket.{Ticket}
 use Rattle.tape_model.specs.declared.Head.{Head}
-use Rattle.tape_model.specs.declared.NextTicket.{NextTicket}
-use Rattle.tape_model.specs.declared.NextTicket.TheVariants.{Refused, Done, End}
-use Rattle.tape_model.specs.declared.OpenedTape.TheVariants.{Done as TapeDone}
-use Rattle.tape_model.specs.Ticket.{ticket_length, ordered, values_rule, pack_ticket, unpack_ticket, head_rule}
-use Rattle.tape_model.specs.Tape.{ticket_limit, pack_tickets, tape_of, is_tickets_length, ticket_then, unpack_tickets, plain_tickets, total_net, Totals, open_tape, opened_reply}
+use Rattle.tape_model.specs.declared.Totals.{Totals}
+use Rattle.tape_model.specs.Ticket.{ticket_length, ticket_of, ticket_values_in, ordered, values_rule, pack_ticket, unpack_ticket, head_rule}
+use Rattle.tape_model.specs.Tape.{ticket_limit, pack_tickets, tape_of, is_tickets_length, ticket_then, unpack_tickets, plain_tickets, total_net, open_tape}
 use Rattle.tape_model.specs.Reader as model
 use Rattle.tape_model.specs.Reader.{Reading, ticket, at_end, ReadOutcome, stays, handed_out, reader_over, read_next, next_reply}
 use Rattle.tape_model.specs.RefusalCases.{good_ticket, last_byte_c1}
@@ -58,16 +59,37 @@ module _ (bytes : Bor (List ℕ)) (answers : List (Reply Reading)) (e : Reader) 
 
 -- ## Every call can be made
 
-abbrev answer_of : Reply Reading → NextTicket
-answer_of (refused n) = Refused n
-answer_of (done (ticket t)) = Done t
-answer_of (done at_end) = End
+-- what bytes unpack to is the answer of some code
+ticket_answer : (string : List ℕ) → (a : Result Ticket Refusal) × (as_reply a ≡ unpack_ticket string)
+unfolding as_reply unpack_ticket unless_refused
+ticket_answer string = by (eqb (length string) ticket_length) (values_rule (ticket_values_in string))
+  where
+    by : (a b : Bool) → (x : Result Ticket Refusal) × (as_reply x ≡ reply_of (2 if not a else 8 if not b else accepted) (ticket_of (ticket_values_in string)))
+    by false b = (Err WrongLength, refl)
+    by true false = (Err TicketUnreadable, refl)
+    by true true = (Ok _, refl)
 
-answers_so : (a : Reply Reading) → next_reply (answer_of a) ≡ a
-unfolding next_reply
-answers_so (refused n) = refl
-answers_so (done (ticket t)) = refl
-answers_so (done at_end) = refl
+-- and so is what a reader answers
+next_answer : (r : model.Reader) → (a : Result (Option Ticket) Refusal) × (next_reply a ≡ (read_next r).answer)
+unfolding next_reply as_reply read_next handed_out
+next_answer r =
+    let t = ticket_answer (take 13 (drop (13 * r.position) r.string)) in
+    subst (λ (u : Reply Ticket). (a : Result (Option Ticket) Refusal) × (next_reply a ≡ (by_next sized at u).answer)) t.1 (by sized at t.0)
+  where
+    sized : Bool
+    sized = not (is_tickets_length (length r.string))
+
+    at : Bool
+    at = leb (length r.string / 13) r.position
+
+    by_next : Bool → Bool → Reply Ticket → ReadOutcome
+    by_next a b u = stays r (refused 2) if a else stays r (done at_end) if b else handed_out u r
+
+    by : (a b : Bool) (x : Result Ticket Refusal) → (y : Result (Option Ticket) Refusal) × (next_reply y ≡ (by_next a b (as_reply x)).answer)
+    by true b x = (Err WrongLength, refl)
+    by false true x = (Ok None, refl)
+    by false false (Err e) = (Err e, refl)
+    by false false (Ok t) = (Ok (Some t), refl)
 
 same-string : (r : model.Reader) → (read_next r).next.string ≡ r.string
 unfolding read_next handed_out
@@ -83,11 +105,12 @@ same-string r =
 reply : (r : Reader) → (h : ReaderReply) × NextCalled r h
 unfolding reader_of reader_outcome
 reply r =
-    let o : ReadOutcome = read_next (reader_of r) in (
-      record { reader = record { bytes = r.bytes; position = o.next.position }; answer = answer_of o.answer },
+    let o : ReadOutcome = read_next (reader_of r) in
+    let a = next_answer (reader_of r) in (
+      record { reader = record { bytes = r.bytes; position = o.next.position }; answer = a.0 },
       record {
         same = refl;
-        outcome = λ i. record { next = reader_at (sym (same-string (reader_of r)) i) o.next.position; answer = answers_so o.answer i };
+        outcome = λ i. record { next = reader_at (sym (same-string (reader_of r)) i) o.next.position; answer = a.1 i };
       },
     )
 
@@ -212,9 +235,8 @@ module _ (bytes : Bor (List ℕ)) where
   whole : (ts : List Ticket) → plain_tickets s ≡ done ts → HandsOut bytes ts (done at_end)
   whole ts h = hands_out ts (done at_end) (tickets-ahead s ts h)
 
-  opened : (key tape out after : List ℕ) (n net : ℕ) → open_tape key tape out ≡ record { answer = opened_reply (TapeDone n net); out = after } → s ≡ take (13 * n) after
+  opened : (key tape out after : List ℕ) (n net : ℕ) → open_tape key tape out ≡ record { answer = done (record { tickets = n; net = net }); out = after } → s ≡ take (13 * n) after
       → (ts : List Ticket) × (length ts ≡ n) × (total_net ts ≡ net) × HandsOut bytes ts (done at_end)
-  unfolding opened_reply
   opened key tape out after n net e here =
       let k : Totals = record { tickets = n; net = net } in (
         tickets_on key tape,

@@ -7,10 +7,9 @@ use Rattle.acorn_model.specs.Machine.{key_length}
 use Rattle.acorn_model.specs.RefusalCases.{string}
 use Rattle.tape_model.specs.declared.Ticket.{Ticket}
 use Rattle.tape_model.specs.declared.Head.{Head}
-use Rattle.tape_model.specs.declared.OpenedTape.{OpenedTape}
-use Rattle.tape_model.specs.declared.OpenedTape.TheVariants.{Done}
+use Rattle.tape_model.specs.declared.Totals.{Totals}
 use Rattle.tape_model.specs.Ticket.{ticket_length, pack_ticket, unpack_ticket, head_rule}
-use Rattle.tape_model.specs.Tape.{ticket_limit, tape_of, is_tickets_length, unpack_tickets, plain_tickets, total_net, open_tape, opened_reply}
+use Rattle.tape_model.specs.Tape.{ticket_limit, tape_of, is_tickets_length, unpack_tickets, plain_tickets, total_net, open_tape}
 use Rattle.tape_model.specs.Reader.{Reading, ticket, at_end, reader_over, next_reply}
 use Rattle.tape_model.specs.RefusalCases.{good_ticket, last_byte_c1}
 use Rattle.tape_model.specs.Laws.{Valid, readings, reader_after}
@@ -58,11 +57,11 @@ pub record ReadingLaws (bytes : Bor (List ℕ)) : Type 0 where
   pub whole : (tickets : List Ticket) → plain_tickets bytes.now ≡ done tickets → HandsOut bytes tickets (done at_end)
   -- over the bytes that opening a tape wrote: the tape's tickets, and then the end
   pub tape : (key : List ℕ) (head : Head) (tickets : List Ticket) → length key ≡ key_length → head_rule head ≡ true → Valid tickets → length tickets ≤ ticket_limit
-      → (out after : List ℕ) (o : OpenedTape) → ticket_length * length tickets ≤ length out
-      → open_tape key (tape_of key head tickets) out ≡ record { answer = opened_reply o; out = after }
+      → (out after : List ℕ) (o : Reply Totals) → ticket_length * length tickets ≤ length out
+      → open_tape key (tape_of key head tickets) out ≡ record { answer = o; out = after }
       → bytes.now ≡ take (ticket_length * length tickets) after → HandsOut bytes tickets (done at_end)
   -- over the bytes that any opening wrote: as many tickets as it answered, of the total net that it answered, and then the end
-  pub opened : (key tape out after : List ℕ) (n net : ℕ) → open_tape key tape out ≡ record { answer = opened_reply (Done n net); out = after }
+  pub opened : (key tape out after : List ℕ) (n net : ℕ) → open_tape key tape out ≡ record { answer = done (record { tickets = n; net = net }); out = after }
       → bytes.now ≡ take (ticket_length * n) after
       → (tickets : List Ticket) × (length tickets ≡ n) × (total_net tickets ≡ net) × HandsOut bytes tickets (done at_end)
   -- over bytes of a wrong size: 2

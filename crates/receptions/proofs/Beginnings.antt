@@ -5,8 +5,8 @@ use mathlib.Core.List.{List, [], ◌∷◌, ◌++◌}
 use Prim.Native.Nat.{ℕ}
 use lib.Dec.{eqb}
 use borrow.Author.Tests.{eq-eqb, eqb-true}
+use Rattle.std.proofs.lemmas.Bool.{and_parts}
 use Rattle.calls.specs.Calls.{◌if◌else◌}
-use Rattle.calls.proofs.Choices.{both}
 use Rattle.receptions.specs.Receptions.{PartingReply, refused_at, not_parted, one_place_later, parting, is_beginning, all_of_longer, no_bytes, longer}
 use Rattle.receptions.specs.Laws.{Begins}
 use Rattle.receptions.proofs.Places.{is_not_parted, eqb-sym}
@@ -18,7 +18,7 @@ unfolding is_beginning
 begins [] b e = (b, refl)
 begins (x ∷ a) [] e = absurd (false≢true e)
 begins (x ∷ a) (y ∷ b) e =
-    let t = both (eqb x y) (is_beginning a b) e in
+    let t = and_parts (eqb x y) (is_beginning a b) e in
     let p = begins a b t.1 in (p.0, ap₂ ◌∷◌ (eqb-true x y t.0) p.1)
 
 goes_on : (a rest : List ℕ) → is_beginning a (a ++ rest) ≡ true

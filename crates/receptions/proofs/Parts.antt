@@ -1,6 +1,6 @@
 -- The slice that is returned, in each case, is the part that the definition names.
 use mathlib.Core.Path.{◌≡◌, refl, sym, ap, ◌∙◌, subst}
-use mathlib.Core.Bool.{Bool}
+use mathlib.Core.Bool.{Bool, true, false, false≢true}
 use mathlib.Core.List.{List, []}
 use Prim.Native.Nat.{ℕ, ◌≤◌, ◌<◌}
 use native.Mathlib.Nat.{le_refl}
@@ -8,10 +8,24 @@ use lib.ListN.{length}
 use lib.Seq.{take_all}
 use borrow.Author.Tests.{lt-ltb, le-ltb}
 use denote.Ref.{Bor}
+use Rattle.std.specs.Prelude.{Result, Ok, Err, is_err}
 use Rattle.calls.specs.Calls.{◌if◌else◌}
+use Rattle.calls.specs.Refusals.{refusal_number}
+use Rattle.receptions.specs.declared.PartedAt.{PartedAt}
 use Rattle.receptions.specs.Receptions.{Part, second_mast, first_mast, refused_at, not_parted, parting, longer}
-use Rattle.receptions.specs.Clauses.{IsPart}
+use Rattle.receptions.specs.Clauses.{parting_reply, IsPart}
 use Rattle.receptions.proofs.Beginnings.{longer-not_parted, longer_parted}
+
+-- what an answer in code says: an error has a place where they part, and else they do not
+pub err_parts : (r : Result Unit PartedAt) → is_err r ≡ true → (n : ℕ) × (k : ℕ) × (parting_reply r ≡ refused_at n k)
+unfolding parting_reply
+err_parts (Ok u) e = absurd (false≢true e)
+err_parts (Err p) e = (refusal_number p.refusal, p.place, refl)
+
+pub ok_not_parted : (r : Result Unit PartedAt) → is_err r ≡ false → parting_reply r ≡ not_parted
+unfolding parting_reply
+ok_not_parted (Ok u) e = refl
+ok_not_parted (Err p) e = absurd (false≢true (sym e))
 
 module _ (first second : Bor (List ℕ)) where
   all_of : Bool → Part

@@ -1,16 +1,15 @@
 -- The place in which two strings part: where the bytes before it agree and those at it differ; none where one string ends first.
 use mathlib.Core.Path.{◌≡◌, refl, sym, ap, ◌∙◌, subst}
 use mathlib.Core.Bool.{Bool, true, false, false≢true}
-use mathlib.Core.List.{List, [], ◌∷◌}
+use mathlib.Core.List.{List, [], ◌∷◌, ◌++◌, append_assoc}
 use mathlib.Core.Logic.{◌⊎◌, inl, inr, ⊎_elim}
-use Prim.Native.Nat.{ℕ, zero, suc, ◌+◌, ◌-◌, ◌≤◌, ◌<◌}
+use Prim.Native.Nat.{ℕ, zero, suc, ◌+◌, ◌≤◌, ◌<◌}
 use native.Mathlib.Omega.{arith}
 use lib.Dec.{eqb, eqb-zero-suc, eqb-suc-zero, eqb-suc-suc}
-use lib.ListN.{length, get_or, take, drop}
-use lib.Seq.{get_or-take, get_or-drop}
+use lib.ListN.{length, get_or, take, get_or-append, length-append}
+use lib.Seq.{get_or-take, length-take-le}
 use borrow.Author.Tests.{eq-eqb, ne_eqb, eqb-true, eqb-false}
 use Rattle.calls.specs.Calls.{◌if◌else◌}
-use Rattle.calls.proofs.Choices.{lt_or_ge}
 use Rattle.receptions.specs.Receptions.{PartingReply, refused_at, not_parted, one_place_later, parting}
 use Rattle.receptions.specs.Laws.{AgreeBefore, FirstDifferenceAt}
 
@@ -38,15 +37,35 @@ behind : (n x y : ℕ) (a b : List ℕ) → AgreeBefore (suc n) (x ∷ a) (y ∷
 unfolding parting
 behind n x y a b h = rw (eq-eqb x y (h 0 (omega arith))) refl
 
--- and so do those that agree up to i and have the same bytes from i to end
-pub agree_further : (i end : ℕ) (a b : List ℕ) → AgreeBefore i a b → take (end - i) (drop i a) ≡ take (end - i) (drop i b) → AgreeBefore end a b
-agree_further i end a b h e k l = ⊎_elim (h k) (λ m. from (k - i) m (omega arith) (omega arith)) (lt_or_ge k i)
-  where
-    at : (c : List ℕ) (j : ℕ) → i ≤ k → j < end - i → k ≡ i + j → get_or (take (end - i) (drop i c)) j 0 ≡ get_or c k 0
-    at c j m n q = get_or-take (end - i) (drop i c) j 0 n ∙ get_or-drop i c j 0 ∙ ap (λ (x : ℕ). get_or c x 0) (sym q)
+-- Strings of n bytes or more that are gone through together: of the first n of each, these bytes, `agreed` of them, come before what is left.
+pub record SameBefore (n agreed : ℕ) (a b left_a left_b : List ℕ) : Type 0 where
+  pub bytes : List ℕ
+  pub size : length bytes ≡ agreed
+  pub in_a : take n a ≡ bytes ++ left_a
+  pub in_b : take n b ≡ bytes ++ left_b
 
-    from : (j : ℕ) → i ≤ k → j < end - i → k ≡ i + j → get_or a k 0 ≡ get_or b k 0
-    from j m n q = sym (at a j m n q) ∙ ap (λ (x : List ℕ). get_or x j 0) e ∙ at b j m n q
+-- the same bytes come off what is left of both
+pub same_more : {n i : ℕ} {a b left_a left_b : List ℕ} → SameBefore n i a b left_a left_b → (x y next_a next_b : List ℕ) → left_a ≡ x ++ next_a → left_b ≡ y ++ next_b
+    → x ≡ y → SameBefore n (i + length x) a b next_a next_b
+same_more p x y next_a next_b e f g =
+    record {
+      bytes = p.bytes ++ x;
+      size = length-append p.bytes x ∙ ap (λ (k : ℕ). k + length x) p.size;
+      in_a = p.in_a ∙ ap (λ (l : List ℕ). p.bytes ++ l) e ∙ sym (append_assoc p.bytes x next_a);
+      in_b = p.in_b ∙ ap (λ (l : List ℕ). p.bytes ++ l) (f ∙ ap (λ (l : List ℕ). l ++ next_b) (sym g)) ∙ sym (append_assoc p.bytes x next_b);
+    }
+
+pub length-left : {n i : ℕ} {a b left_a left_b : List ℕ} → SameBefore n i a b left_a left_b → n ≤ length a → i + length left_a ≡ n
+length-left {n} {left_a = left_a} p h = omega (arith, length-take-le n _ h, ap length p.in_a, length-append p.bytes left_a, p.size)
+
+-- and so far they agree
+pub agree : {n i : ℕ} {a b left_a left_b : List ℕ} → SameBefore n i a b left_a left_b → n ≤ length a → (i ≤ n) × AgreeBefore i a b
+agree {n} {i} {a} {b} {left_a} {left_b} p h =
+    let within : i ≤ n = omega (arith, length-left p h) in
+    (within, λ k l. at a left_a p.in_a k (omega arith) (omega (arith, p.size)) ∙ sym (at b left_b p.in_b k (omega arith) (omega (arith, p.size))))
+  where
+    at : (c left : List ℕ) → take n c ≡ p.bytes ++ left → (k : ℕ) → k < n → k < length p.bytes → get_or c k 0 ≡ get_or p.bytes k 0
+    at c left e k l m = sym (get_or-take n c k 0 l) ∙ ap (λ (x : List ℕ). get_or x k 0) e ∙ get_or-append p.bytes left 0 k m
 
 pub at_place : (k : ℕ) (a b : List ℕ) → FirstDifferenceAt a b k → parting a b ≡ refused_at 10 k
 unfolding parting

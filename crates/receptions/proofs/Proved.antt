@@ -11,8 +11,8 @@ use lib.ListN.{length, take, drop, get_or, length-append}
 use lib.Seq.{take-length, length-take-le}
 use borrow.Author.Tests.{lt-ltb, le-ltb}
 use denote.Ref.{Bor}
+use Rattle.std.proofs.lemmas.Bool.{cases_lt}
 use Rattle.calls.specs.Calls.{refused, result_of, unless_refused}
-use Rattle.calls.proofs.Choices.{lt_or_ge}
 use Rattle.acorn_model.specs.Machine.{key_length}
 use Rattle.tape_model.specs.Tape.{is_tape_length, open_tape_refusal, open_tape}
 use Rattle.tape_model.specs.Listing.{listing}
@@ -101,7 +101,7 @@ module _ (a b : List ℕ) where
       ⊎_elim
       (λ l. subst (λ (h : List ℕ). Begins a h × Begins b h) (sym (bytes-second e l)) (second-begins e l, begins_itself b))
       (λ l. subst (λ (h : List ℕ). Begins a h × Begins b h) (sym (bytes-first e l)) (begins_itself a, shorter-begins a b e l))
-      (lt_or_ge (length a) (length b))
+      (cases_lt (length a) (length b))
 
   -- ## By the three cases
 
@@ -109,7 +109,7 @@ module _ (a b : List ℕ) where
       (first : parting a b ≡ not_parted → length b ≤ length a → P) where
     by-reply : (r : PartingReply) → parting a b ≡ r → P
     by-reply (refused_at n k) e = parted n k e
-    by-reply not_parted e = ⊎_elim (second e) (first e) (lt_or_ge (length a) (length b))
+    by-reply not_parted e = ⊎_elim (second e) (first e) (cases_lt (length a) (length b))
 
     pub three-cases : P
     three-cases = by-reply (parting a b) refl
@@ -162,7 +162,7 @@ bytes-exchanged a b =
     three-cases a b
     (λ n k e. bytes_of a b no_bytes (longer_parted a b n k e) ∙ sym (bytes_of b a no_bytes (longer_parted b a n k (parting-exchanged b a ∙ e))))
     (λ e l. bytes-second a b e l ∙ sym (bytes-first b a (parting-exchanged b a ∙ e) (omega arith)))
-    (λ e l. bytes-first a b e l ∙ ⊎_elim (λ m. sym (bytes-second b a (parting-exchanged b a ∙ e) m)) (λ m. same e l m ∙ sym (bytes-first b a (parting-exchanged b a ∙ e) m)) (lt_or_ge (length b) (length a)))
+    (λ e l. bytes-first a b e l ∙ ⊎_elim (λ m. sym (bytes-second b a (parting-exchanged b a ∙ e) m)) (λ m. same e l m ∙ sym (bytes-first b a (parting-exchanged b a ∙ e) m)) (cases_lt (length b) (length a)))
   where
     same : parting a b ≡ not_parted → length b ≤ length a → length a ≤ length b → a ≡ b
     same e l m = let p = shorter-begins a b e l in sym (all_of b p.0 a p.1 m)
@@ -195,7 +195,7 @@ of_one-tape tape a b p q =
       ⊎_elim
           (λ l. subst (λ (h : List ℕ). Begins h tape) (sym (bytes-second a b e l)) q)
           (λ l. subst (λ (h : List ℕ). Begins h tape) (sym (bytes-first a b e l)) p)
-          (lt_or_ge (length a) (length b)),
+          (cases_lt (length a) (length b)),
     )
 
 -- ## The slice handed back

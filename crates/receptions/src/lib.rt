@@ -6,20 +6,14 @@ ghost use Rattle.receptions.specs.Receptions as receptions;
 ghost use Rattle.receptions.specs.Clauses.{parting_reply, IsPart};
 ghost use Rattle.receptions.specs.Laws.{AgreeBefore};
 
+use calls::Refusal;
 use compare::same_bytes;
 
-// Where two receptions part: 10 and the place, counted from 0; or that they do not.
-#[derive(Clone, Copy)]
-pub enum PartingAnswer {
-    Refused(u8, usize),
-    NotParted,
-}
-
-// The answer where they part.
-fn refused_at(place: usize) -> PartingAnswer
-    ensures { parting_reply result ≡ receptions.refused_at 10 place }
-{
-    PartingAnswer::Refused(10, place)
+// Where two receptions part: that they do, and the place, counted from 0.
+#[derive(Clone, Copy, Debug, PartialEq, Eq)]
+pub struct PartedAt {
+    pub refusal: Refusal,
+    pub place: usize,
 }
 
 // How many bytes, of the first n, are in groups of eight that agree, up to the first that does not. A group is compared at once.
@@ -27,27 +21,23 @@ fn equal_groups(first: &[u8], second: &[u8], n: usize) -> usize
     requires { (n ≤ length first.now) × (n ≤ length second.now) }
     ensures { (result ≤ n) × AgreeBefore result first.now second.now }
 {
-    let mut i: usize = 0;
-    while 8 <= n - i {
-        let end = i + 8;
-        if !same_bytes(&first[i..end], &second[i..end]) {
-            return i;
+    let mut agreed: usize = 0;
+    for (a, b) in first[..n].chunks_exact(8).zip(second[..n].chunks_exact(8)) {
+        if !same_bytes(a, b) {
+            break;
         }
-        i = end;
+        agreed += 8;
     }
-    i
+    agreed
 }
 
 // 10 and the index of the first byte that differs, among those that both have; or that none does.
-pub fn parting(first: &[u8], second: &[u8]) -> PartingAnswer
+pub fn parting(first: &[u8], second: &[u8]) -> Result<(), PartedAt>
     ensures { parting_reply result ≡ receptions.parting first.now second.now }
 {
-    let shorter = if first.len() < second.len() {
-        first.len()
-    } else {
-        second.len()
-    };
+    let shorter = first.len().min(second.len());
     let mut i = equal_groups(first, second, shorter);
+    // a `loop` whose `break` gives the index: the form that document 01 names for this place
     let agreed = loop {
         if i == shorter {
             break i;
@@ -58,18 +48,21 @@ pub fn parting(first: &[u8], second: &[u8]) -> PartingAnswer
         i += 1;
     };
     if agreed == shorter {
-        return PartingAnswer::NotParted;
+        return Ok(());
     }
-    refused_at(agreed)
+    Err(PartedAt {
+        refusal: Refusal::Parted,
+        place: agreed,
+    })
 }
 
 // All of the longer reception where they do not part, and of the first where they are equally long; no bytes of the first where they part.
 pub fn longer<'a>(first: &'a [u8], second: &'a [u8]) -> &'a [u8]
     ensures { IsPart (receptions.longer first.now second.now) first.entry second.entry result }
 {
-    let PartingAnswer::NotParted = parting(first, second) else {
+    if parting(first, second).is_err() {
         return &first[0..0];
-    };
+    }
     let second_longer = first.len() < second.len();
     if second_longer { second } else { first }
 }

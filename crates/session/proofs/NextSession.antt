@@ -70,23 +70,23 @@ module _ (m : Machine) where
 
 -- ## Text and close
 
-module _ (s : Session) (state : State) (k n : ℕ) (e : k ≡ data_end_steps s.phase) where
-  pub text_session : (piece : List ℕ) → state_of state ≡ (text_taken piece (machine_of s)).state → n ≡ (s.steps + (k + 8 * length piece)) % 2 ^ 64
-      → machine_of (record { state = state; data_bytes = s.data_bytes; text_bytes = s.text_bytes + length piece; steps = n; kind = s.kind; phase = Text; tag_length = s.tag_length })
+module _ (s : Session) (state : State) (k : ℕ) (e : k ≡ data_end_steps s.phase) where
+  pub text_session : (piece : List ℕ) → state_of state ≡ (text_taken piece (machine_of s)).state
+      → machine_of (record { state = state; data_bytes = s.data_bytes; text_bytes = s.text_bytes + length piece; steps = (s.steps + (k + 8 * length piece)) % 2 ^ 64; kind = s.kind; phase = Text; tag_length = s.tag_length })
       ≡ wrapped_machine (text_taken piece (machine_of s))
   unfolding text_taken count_text enter run_through machine_of wrapped
-  text_session piece h f =
+  text_session piece h =
       stands_for _ (after (ended_if (machine_of s) (is_data s.phase))) refl refl refl (h ∙ ap (λ (m : Machine). (after m).state) (data-ended (machine_of s))) refl refl (omega arith)
       ∙ ap (λ (m : Machine). wrapped_machine (after m)) (sym (data-ended (machine_of s)))
     where
       after : Machine → Machine
       after m = enter Text (count_text (length piece) (run_through (text_piece (is_checking s.kind) piece) m))
 
-  pub closed_session : state_of state ≡ zeros → n ≡ (s.steps + (k + 1024)) % 2 ^ 64
-      → machine_of (record { state = state; data_bytes = s.data_bytes; text_bytes = s.text_bytes; steps = n; kind = s.kind; phase = Closed; tag_length = s.tag_length })
+  pub closed_session : state_of state ≡ zeros
+      → machine_of (record { state = state; data_bytes = s.data_bytes; text_bytes = s.text_bytes; steps = (s.steps + (k + 1024)) % 2 ^ 64; kind = s.kind; phase = Closed; tag_length = s.tag_length })
       ≡ wrapped_machine (closed (machine_of s))
   unfolding closed text_ended cleared enter run_through machine_of wrapped
-  closed_session h f =
+  closed_session h =
       stands_for _ (after (ended_if (machine_of s) (is_data s.phase))) refl refl refl h refl refl (omega arith)
       ∙ ap (λ (m : Machine). wrapped_machine (after m)) (sym (data-ended (machine_of s)))
     where

@@ -1,7 +1,10 @@
 -- A call's whole outcome, from what its tests came to and the session after it.
-use Rattle.std.proofs.Common.{◌≡◌, ℕ, suc, Bool, true, false, List, [], length, sym, ap, ◌∙◌, ap₂}
+use Rattle.std.proofs.Common.{◌≡◌, ℕ, suc, Bool, true, false, List, [], length, refl, sym, ap, ◌∙◌, ap₂}
 use Rattle.acorn_model.specs.Stretches.{tag_bytes}
-use Rattle.calls.specs.Calls.{done, answer_reply, written_over, same_bytes, unless_refused, refused_with}
+use Rattle.calls.specs.declared.Refusal.{Refusal}
+use Rattle.calls.specs.declared.Refusal.TheVariants.{WrongPhase, WrongLength, OverLimit, OutputTooShort, WrongTag, TagLength}
+use Rattle.calls.specs.Refusals.{refusal_number}
+use Rattle.calls.specs.Calls.{refused, done, answer_reply, written_over, same_bytes, unless_refused, refused_with}
 use Rattle.acorn_model.specs.Machine.{Machine, Call, check_close, output_of, phase_allows, fixes_right, sizes_right, over_limit, output_short, refusal, text_ended, closed, answered, wrote, verdict, work, call}
 use Rattle.acorn_model.proofs.Refusals.{Passed, never_7, works}
 use Rattle.session.specs.declared.Session.{Session}
@@ -13,35 +16,35 @@ use Rattle.session.proofs.Wrapping.{judged, wrote-wrapped, judged-wrapped, refus
 
 module _ (s : Session) (c : Call) where
   -- a refused call hands the session on as it was
-  refuses : (n : ℕ) → refusal (machine_of s) c ≡ suc n → (r : SessionReply) → r ≡ refused_reply (suc n) s → Called s c r (output_of c)
+  refuses : (n : ℕ) → refusal (machine_of s) c ≡ suc n → (e : Refusal) → refusal_number e ≡ suc n → (r : SessionReply) → r ≡ refused_reply e s → Called s c r (output_of c)
   unfolding session_outcome answer_reply call unless_refused refused_with
-  refuses n e r reply =
-      ap (λ (x : SessionReply). session_outcome x (output_of c)) reply
-      ∙ sym (refused_stays (suc n) (output_of c) (machine_of s) (λ z. never_7 (machine_of s) c (e ∙ z))) ∙ ap wrapped_outcome (rw e)
+  refuses n applies e number r reply =
+      ap (λ (x : SessionReply). session_outcome x (output_of c)) reply ∙ ap (λ (k : ℕ). record { next = machine_of s; answer = refused k; out = output_of c }) number
+      ∙ sym (refused_stays (suc n) (output_of c) (machine_of s) (λ z. never_7 (machine_of s) c (applies ∙ z))) ∙ ap wrapped_outcome (rw applies)
 
   module _ (r : SessionReply) where
-    pub refused_1 : r ≡ refused_reply 1 s → phase_allows (machine_of s).kind (machine_of s).phase c ≡ false → Called s c r (output_of c)
+    pub refused_1 : r ≡ refused_reply WrongPhase s → phase_allows (machine_of s).kind (machine_of s).phase c ≡ false → Called s c r (output_of c)
     unfolding refusal
-    refused_1 reply a = refuses 0 (rw a) r reply
+    refused_1 reply a = refuses 0 (rw a) WrongPhase refl r reply
 
-    pub refused_9 : r ≡ refused_reply 9 s → phase_allows (machine_of s).kind (machine_of s).phase c ≡ true → fixes_right c ≡ false → Called s c r (output_of c)
+    pub refused_9 : r ≡ refused_reply TagLength s → phase_allows (machine_of s).kind (machine_of s).phase c ≡ true → fixes_right c ≡ false → Called s c r (output_of c)
     unfolding refusal
-    refused_9 reply a f = refuses 8 (rw (a, f)) r reply
+    refused_9 reply a f = refuses 8 (rw (a, f)) TagLength refl r reply
 
-    pub refused_2 : r ≡ refused_reply 2 s → phase_allows (machine_of s).kind (machine_of s).phase c ≡ true → fixes_right c ≡ true
+    pub refused_2 : r ≡ refused_reply WrongLength s → phase_allows (machine_of s).kind (machine_of s).phase c ≡ true → fixes_right c ≡ true
         → sizes_right (machine_of s).tag_length c ≡ false → Called s c r (output_of c)
     unfolding refusal
-    refused_2 reply a f z = refuses 1 (rw (a, f, z)) r reply
+    refused_2 reply a f z = refuses 1 (rw (a, f, z)) WrongLength refl r reply
 
-    pub refused_5 : r ≡ refused_reply 5 s → phase_allows (machine_of s).kind (machine_of s).phase c ≡ true → fixes_right c ≡ true
+    pub refused_5 : r ≡ refused_reply OverLimit s → phase_allows (machine_of s).kind (machine_of s).phase c ≡ true → fixes_right c ≡ true
         → sizes_right (machine_of s).tag_length c ≡ true → over_limit (machine_of s).counts c ≡ true → Called s c r (output_of c)
     unfolding refusal
-    refused_5 reply a f z l = refuses 4 (rw (a, f, z, l)) r reply
+    refused_5 reply a f z l = refuses 4 (rw (a, f, z, l)) OverLimit refl r reply
 
-    pub refused_6 : r ≡ refused_reply 6 s → phase_allows (machine_of s).kind (machine_of s).phase c ≡ true → fixes_right c ≡ true
+    pub refused_6 : r ≡ refused_reply OutputTooShort s → phase_allows (machine_of s).kind (machine_of s).phase c ≡ true → fixes_right c ≡ true
         → sizes_right (machine_of s).tag_length c ≡ true → over_limit (machine_of s).counts c ≡ false → output_short (machine_of s).tag_length c ≡ true → Called s c r (output_of c)
     unfolding refusal
-    refused_6 reply a f z l o = refuses 5 (rw (a, f, z, l, o)) r reply
+    refused_6 reply a f z l o = refuses 5 (rw (a, f, z, l, o)) OutputTooShort refl r reply
 
 -- ## No number applies
 
@@ -70,6 +73,6 @@ module _ (s : Session) {tag : List ℕ} (p : Passed (machine_of s) (check_close 
   unfolding session_outcome answer_reply verdict answered machine_of
   right-tag g r reply = judges true g r (ap (λ (x : SessionReply). session_outcome x []) reply)
 
-  pub wrong_tag : false ≡ same_bytes tag (tag_bytes (machine_of s).tag_length (text_ended (machine_of s)).state) → (r : SessionReply) → r ≡ refused_reply 7 z → Called s (check_close tag) r []
+  pub wrong_tag : false ≡ same_bytes tag (tag_bytes (machine_of s).tag_length (text_ended (machine_of s)).state) → (r : SessionReply) → r ≡ refused_reply WrongTag z → Called s (check_close tag) r []
   unfolding session_outcome answer_reply verdict
   wrong_tag g r reply = judges false g r (ap (λ (x : SessionReply). session_outcome x []) reply)

@@ -1,11 +1,14 @@
 -- How a session is held against document 01's machine: the one equation that every method's contract is.
-use Rattle.std.specs.Prelude.{◌≡◌, ℕ, ◌%◌, ◌^◌, List}
+use Rattle.std.specs.Prelude.{◌≡◌, Bool, ◌&&◌, ◌||◌, ℕ, ◌%◌, ◌^◌, List}
+use Rattle.acorn_model.specs.declared.Kind.{Kind}
+use Rattle.acorn_model.specs.declared.Kind.TheVariants.{Sealing, Checking}
 use Rattle.acorn_model.specs.declared.Phase.{Phase}
 use Rattle.calls.specs.declared.Answer.TheVariants.{Refused, Done}
+use Rattle.calls.specs.declared.Refusal.{Refusal}
 use Rattle.acorn_model.specs.Bits.{Bits}
 use Rattle.calls.specs.Calls.{◌if◌else◌, Reply, refused, done, Work, left_unchanged, Outcome, answer_reply}
 use Rattle.acorn_model.specs.Stretches.{full_tag_length, through, data_end}
-use Rattle.acorn_model.specs.Machine.{Machine, with_steps, with_counts, Call, tag_length_right, is_data, text_taken, call}
+use Rattle.acorn_model.specs.Machine.{Machine, with_steps, with_counts, Call, tag_length_right, is_sealing, is_checking, is_data, is_text, text_taken, call}
 use Rattle.acorn_kernel.specs.declared.State.{State}
 use Rattle.acorn_kernel.specs.Together.{state_of}
 use Rattle.session.specs.declared.Session.{Session}
@@ -55,12 +58,17 @@ Called s c r out = session_outcome r out ≡ wrapped_outcome (call (machine_of s
 
 -- ## What the private functions cite
 
--- replies with a refusal number, and with the bytes written and the session's steps
-abbrev pub refused_reply : ℕ → Session → SessionReply
-refused_reply number s = record { answer = Refused number; session = s }
+-- replies with a refusal, and with the bytes written and the session's steps
+abbrev pub refused_reply : Refusal → Session → SessionReply
+refused_reply refusal s = record { answer = Refused refusal; session = s }
 
 abbrev pub done_reply : ℕ → Session → SessionReply
 done_reply bytes s = record { answer = Done bytes s.steps; session = s }
+
+-- whether the text calls and the close of a kind are allowed
+abbrev pub takes_text : Kind → Session → Bool
+takes_text Sealing s = is_sealing s.kind && (is_data s.phase || is_text s.phase)
+takes_text Checking s = is_checking s.kind && (is_data s.phase || is_text s.phase)
 
 -- the state after the data end, which text and close run first where the phase is data, and the steps of that
 unfoldable pub ended_state : Phase → Bits → Bits

@@ -1,22 +1,24 @@
-// A session of ACORN-128 v3. A call takes the session by value and returns the one after it, with an answer: a refusal number, or how many bytes
-// were written and how many steps the session has run. A refused call changes nothing, but that a wrong tag closes.
+// A session of ACORN-128 v3. A call takes the session by value and returns the one after it, with an answer: a refusal, or how many bytes were written and
+// how many steps the session has run. A refused call changes nothing, but that a wrong tag closes.
 #![tactic(auto)]
 
 mod phase_runs;
-mod refusal;
 mod words;
 
-ghost use Rattle.std.specs.Prelude.{◌≡◌, ◌+◌, ◌≤◌, [], length};
+ghost use Rattle.std.specs.Prelude.{◌≡◌, ◌+◌, ◌≤◌, false, [], length, nat_lt};
 ghost use Rattle.acorn_model.specs.Stretches.{full_tag_length};
 ghost use Rattle.acorn_model.specs.Machine as machine;
-ghost use Rattle.session.specs.Clauses.{machine_of, wrapped_machine, Called, refused_reply, done_reply, TextTaken};
+ghost use Rattle.session.specs.Clauses.{machine_of, wrapped_machine, Called, refused_reply, done_reply, takes_text, TextTaken};
+ghost use Rattle.acorn.specs.Runs.{TextRun};
+ghost use Rattle.acorn_kernel.specs.Together.{state_of};
 
-use acorn::{State, absorb_data, is_tag_bytes, start, tag_length_right, write_tag_bytes, zeros};
-use acorn_model::{CLOSE_STEPS, KEY_LENGTH, Kind, NONCE_LENGTH, Phase, START_STEPS, TAG_LENGTH};
-use calls::Answer;
-use phase_runs::{ciphertext_taken, data_end_steps, data_ended, text_ended};
-use refusal::{is_checking, is_data, is_fresh, is_sealing, is_text, over_limit, takes_text};
-use std::num::wrapping_add_u64;
+use acorn::{
+    State, absorb_data, check_text, is_tag_bytes, start, tag_length_right, write_tag_bytes, zeros,
+};
+use acorn_model::{
+    BYTE_LIMIT, CLOSE_STEPS, KEY_LENGTH, Kind, NONCE_LENGTH, Phase, START_STEPS, TAG_LENGTH,
+};
+use calls::{Answer, Refusal};
 
 #[derive(Clone, Copy)]
 pub struct Session {
@@ -29,11 +31,19 @@ pub struct Session {
     tag_length: u8,
 }
 
-// What a call answered, and the session after it.
+// What a call answered, and the session after it. (Of a session, and not of any state: the clauses of calls and of lists of calls name it.
+// Document 01 names the form: a call hands back the session after it.)
 #[derive(Clone, Copy)]
 pub struct Reply {
     pub answer: Answer,
     pub session: Session,
+}
+
+// Whether a piece goes over the limit after the bytes that are taken. (By two comparisons: with `saturating_add` a piece of 13 bytes takes four instructions more.)
+fn over_limit(taken: u64, piece: &[u8]) -> bool
+    ensures { result ≡ nat_lt machine.byte_limit (taken + length piece.now) }
+{
+    taken > BYTE_LIMIT as u64 || piece.len() as u64 > BYTE_LIMIT as u64 - taken
 }
 
 impl Session {
@@ -53,19 +63,19 @@ impl Session {
     }
 
     // Whether text has begun, and has not ended.
+    #[tactic(auto, unfolding(crate::specs::Clauses::machine_of))]
     pub fn in_text(self) -> bool
         ensures { result ≡ machine.is_text (machine_of self).phase }
     {
-        let phase = self.phase;
-        is_text(phase)
+        self.phase == Phase::Text
     }
 
     // A call is sent back, or its tag was wrong.
-    fn refused(self, number: u8) -> Reply
-        ensures { result ≡ refused_reply number self }
+    fn refused(self, refusal: Refusal) -> Reply
+        ensures { result ≡ refused_reply refusal self }
     {
         Reply {
-            answer: Answer::Refused(number),
+            answer: Answer::Refused(refusal),
             session: self,
         }
     }
@@ -88,29 +98,31 @@ impl Session {
         if tag_length_right(n) { n } else { TAG_LENGTH }
     }
 
+    // Whether the text calls and the close of this kind are allowed: in data and in text, and to no session of the other kind.
+    fn takes_text(self, kind: Kind) -> bool
+        ensures { result ≡ takes_text kind self }
+    {
+        self.kind == kind && matches!(self.phase, Phase::Data | Phase::Text)
+    }
+
     // Start runs, with a key and a nonce of 16 bytes; the tag has so many bytes, 8 to 16.
     pub fn begin_tag(self, key: &[u8], nonce: &[u8], tag_length: usize) -> Reply
         ensures { Called self (machine.begin key.now nonce.now tag_length) result [] }
     {
-        let phase = self.phase;
-        let sized = (key.len() == KEY_LENGTH) & (nonce.len() == NONCE_LENGTH);
-        if !is_fresh(phase) {
-            return self.refused(1);
+        if self.phase != Phase::Fresh {
+            return self.refused(Refusal::WrongPhase);
         }
         if !tag_length_right(tag_length) {
-            return self.refused(9);
+            return self.refused(Refusal::TagLength);
         }
-        if !sized {
-            return self.refused(2);
+        if key.len() != KEY_LENGTH || nonce.len() != NONCE_LENGTH {
+            return self.refused(Refusal::WrongLength);
         }
-        let started = start(key, nonce);
-        let steps = wrapping_add_u64(self.steps, START_STEPS);
-        let fixed = tag_length as u8;
         let begun = Session {
-            state: started,
-            steps,
+            state: start(key, nonce),
+            steps: self.steps.wrapping_add(START_STEPS),
             phase: Phase::Data,
-            tag_length: fixed,
+            tag_length: tag_length as u8,
             ..self
         };
         begun.done(0)
@@ -127,23 +139,18 @@ impl Session {
     pub fn data(self, piece: &[u8]) -> Reply
         ensures { Called self (machine.data_call piece.now) result [] }
     {
-        let phase = self.phase;
-        let taken = self.data_bytes;
-        if !is_data(phase) {
-            return self.refused(1);
+        if self.phase != Phase::Data {
+            return self.refused(Refusal::WrongPhase);
         }
-        if over_limit(taken, piece.len()) {
-            return self.refused(5);
+        if over_limit(self.data_bytes, piece) {
+            return self.refused(Refusal::OverLimit);
         }
-        let held = self.state;
-        let absorbed = absorb_data(held, piece);
+        let absorbed = absorb_data(self.state, piece);
         let n = piece.len() as u64;
-        let data_bytes = taken + n;
-        let steps = wrapping_add_u64(self.steps, 8 * n);
         let next = Session {
             state: absorbed,
-            data_bytes,
-            steps,
+            data_bytes: self.data_bytes + n,
+            steps: self.steps.wrapping_add(8 * n),
             ..self
         };
         next.done(0)
@@ -154,147 +161,118 @@ impl Session {
         requires { self.text_bytes + length piece.now ≤ machine.byte_limit }
         ensures { TextTaken self piece.now state result }
     {
-        let phase = self.phase;
         let n = piece.len() as u64;
-        let text_bytes = self.text_bytes + n;
-        let steps = wrapping_add_u64(self.steps, data_end_steps(phase) + 8 * n);
         Session {
             state,
-            text_bytes,
-            steps,
+            text_bytes: self.text_bytes + n,
+            steps: self.steps.wrapping_add(self.data_end_steps() + 8 * n),
             phase: Phase::Text,
             ..self
         }
     }
 
-    // A sealing session writes the ciphertext of the piece. (In its callers' frames: with one of its own, a call for C takes more of the stack
-    // than the header says.)
+    // A sealing session writes the ciphertext of the piece, by a run over text. (In its callers' frames: with one of its own, a call for C takes more
+    // of the stack than the header says.)
+    #[inline(always)]
+    fn seal_by<F: FnOnce(State, &[u8], &mut [u8]) -> State>(
+        self,
+        run: F,
+        piece: &[u8],
+        out: &mut [u8],
+    ) -> Reply
+        requires callable { F.IsAlwaysCallable run }
+        requires over_text { (s : _) (p : _) (o : _) (t : _) (o' : _) → F.post run s p o t o' → TextRun false (state_of s) p.now o.now (state_of t) o'.now }
+        ensures { Called self (machine.seal_text piece.now out.old) result out.new }
+    {
+        if !self.takes_text(Kind::Sealing) {
+            return self.refused(Refusal::WrongPhase);
+        }
+        let over = over_limit(self.text_bytes, piece);
+        if over {
+            return self.refused(Refusal::OverLimit);
+        }
+        if out.len() < piece.len() {
+            return self.refused(Refusal::OutputTooShort);
+        }
+        let sealed = run(self.data_ended(), piece, out);
+        self.text_taken(piece, sealed).done(piece.len())
+    }
+
+    // The same, by the run for pieces of every length.
     #[inline(always)]
     pub fn seal_text(self, piece: &[u8], out: &mut [u8]) -> Reply
         ensures { Called self (machine.seal_text piece.now out.old) result out.new }
     {
-        let kind = self.kind;
-        let phase = self.phase;
-        let taken = self.text_bytes;
-        let allowed = is_sealing(kind) & takes_text(phase);
-        let over = over_limit(taken, piece.len());
-        let short = out.len() < piece.len();
-        if !allowed {
-            return self.refused(1);
-        }
-        if over {
-            return self.refused(5);
-        }
-        if short {
-            return self.refused(6);
-        }
-        let held = self.state;
-        let sealed = acorn::seal_text(data_ended(phase, held), piece, out);
-        let next = self.text_taken(piece, sealed);
-        next.done(piece.len())
+        self.seal_by(acorn::seal_text, piece, out)
     }
 
-    // The same, by the run that is made for pieces of 13 bytes. It repeats the tests of `seal_text`: with a number from a function that both
-    // share, an add takes longer.
+    // The same, by the run that is made for pieces of 13 bytes.
     pub fn seal_13(self, piece: &[u8], out: &mut [u8]) -> Reply
         ensures { Called self (machine.seal_text piece.now out.old) result out.new }
     {
-        let kind = self.kind;
-        let phase = self.phase;
-        let text_bytes = self.text_bytes;
-        let allowed = is_sealing(kind) & takes_text(phase);
-        let over = over_limit(text_bytes, piece.len());
-        let short = out.len() < piece.len();
-        if !allowed {
-            return self.refused(1);
-        }
-        if over {
-            return self.refused(5);
-        }
-        if short {
-            return self.refused(6);
-        }
-        let held = self.state;
-        let state = acorn::seal_13(data_ended(phase, held), piece, out);
-        let next = self.text_taken(piece, state);
-        next.done(piece.len())
+        self.seal_by(acorn::seal_13, piece, out)
     }
 
     // A checking session takes ciphertext, and writes nothing.
     pub fn check_text(self, piece: &[u8]) -> Reply
         ensures { Called self (machine.check_text piece.now) result [] }
     {
-        let kind = self.kind;
-        let phase = self.phase;
-        let taken = self.text_bytes;
-        let allowed = is_checking(kind) & takes_text(phase);
+        let allowed = self.takes_text(Kind::Checking);
         if !allowed {
-            return self.refused(1);
+            return self.refused(Refusal::WrongPhase);
         }
-        if over_limit(taken, piece.len()) {
-            return self.refused(5);
+        if over_limit(self.text_bytes, piece) {
+            return self.refused(Refusal::OverLimit);
         }
-        let held = self.state;
-        let checked = ciphertext_taken(phase, held, piece);
-        let next = self.text_taken(piece, checked);
-        next.done(0)
+        let checked = check_text(self.data_ended(), piece);
+        self.text_taken(piece, checked).done(0)
     }
 
     // The session after its last stretches, which keeps nothing of the state.
     fn closed(self) -> Session
         ensures { machine_of result ≡ wrapped_machine (machine.closed (machine_of self)) }
     {
-        let phase = self.phase;
-        let steps = wrapping_add_u64(self.steps, data_end_steps(phase) + CLOSE_STEPS);
         Session {
             state: zeros(),
-            steps,
+            steps: self.steps.wrapping_add(self.data_end_steps() + CLOSE_STEPS),
             phase: Phase::Closed,
             ..self
         }
     }
 
-    // A sealing session writes the tag. (Inlined as `seal_text` is, and for the same reason.)
+    // A sealing session writes the tag. (Inlined as `seal_by` is, and for the same reason.)
     #[inline(always)]
     pub fn seal_close(self, out: &mut [u8]) -> Reply
         ensures { Called self (machine.seal_close out.old) result out.new }
     {
-        let kind = self.kind;
-        let phase = self.phase;
-        let allowed = is_sealing(kind) & takes_text(phase);
-        if !allowed {
-            return self.refused(1);
+        if !self.takes_text(Kind::Sealing) {
+            return self.refused(Refusal::WrongPhase);
         }
         let n = self.fixed_length();
         if out.len() < n {
-            return self.refused(6);
+            return self.refused(Refusal::OutputTooShort);
         }
-        let held = self.state;
-        write_tag_bytes(text_ended(phase, held), n, out);
-        let closed = self.closed();
-        closed.done(n)
+        write_tag_bytes(self.text_ended(), n, out);
+        self.closed().done(n)
     }
 
-    // A checking session is given a tag, and answers good or 7.
+    // A checking session is given a tag, and answers good or `WrongTag`.
     pub fn check_close(self, tag: &[u8]) -> Reply
         ensures { Called self (machine.check_close tag.now) result [] }
     {
-        let kind = self.kind;
-        let phase = self.phase;
-        if !(is_checking(kind) & takes_text(phase)) {
-            return self.refused(1);
+        if !self.takes_text(Kind::Checking) {
+            return self.refused(Refusal::WrongPhase);
         }
         let n = self.fixed_length();
         if tag.len() != n {
-            return self.refused(2);
+            return self.refused(Refusal::WrongLength);
         }
-        let held = self.state;
-        let good = is_tag_bytes(text_ended(phase, held), n, tag);
+        let good = is_tag_bytes(self.text_ended(), n, tag);
         let closed = self.closed();
         if good {
             closed.done(0)
         } else {
-            closed.refused(7)
+            closed.refused(Refusal::WrongTag)
         }
     }
 }

@@ -1,4 +1,5 @@
-// A session in eleven words, for callers that cannot hold the struct. Any eleven words are read as some session.
+// A session in eleven words, for callers that cannot hold the struct. Any eleven words are read as some session. (Methods, and no From: neither
+// way keeps every bit.)
 ghost use Rattle.std.specs.Prelude.{◌≡◌};
 ghost use Rattle.session.specs.Clauses.{machine_of};
 ghost use Rattle.session.specs.Words.{kind_phase_number, kind_in, phase_in, session_in, words_for};
@@ -7,23 +8,19 @@ use super::Session;
 use acorn::State;
 use acorn_model::{Kind, Phase};
 
-// Kind and phase in one number.
+// Kind and phase in one number. (Functions, and no TryFrom for the way back: every number is read as some kind and phase, as `session_in` says.)
 fn number(kind: Kind, phase: Phase) -> u64
     ensures { result ≡ kind_phase_number kind phase }
 {
-    match kind {
-        Kind::Sealing => match phase {
-            Phase::Fresh => 0,
-            Phase::Data => 1,
-            Phase::Text => 2,
-            Phase::Closed => 3,
-        },
-        Kind::Checking => match phase {
-            Phase::Fresh => 4,
-            Phase::Data => 5,
-            Phase::Text => 6,
-            Phase::Closed => 7,
-        },
+    match (kind, phase) {
+        (Kind::Sealing, Phase::Fresh) => 0,
+        (Kind::Sealing, Phase::Data) => 1,
+        (Kind::Sealing, Phase::Text) => 2,
+        (Kind::Sealing, Phase::Closed) => 3,
+        (Kind::Checking, Phase::Fresh) => 4,
+        (Kind::Checking, Phase::Data) => 5,
+        (Kind::Checking, Phase::Text) => 6,
+        (Kind::Checking, Phase::Closed) => 7,
     }
 }
 
@@ -36,16 +33,12 @@ fn kind_in(n: u64) -> Kind
 fn phase_in(n: u64) -> Phase
     ensures { result ≡ phase_in n }
 {
-    if (n == 0) | (n == 4) {
-        return Phase::Fresh;
+    match n {
+        0 | 4 => Phase::Fresh,
+        1 | 5 => Phase::Data,
+        2 | 6 => Phase::Text,
+        _ => Phase::Closed,
     }
-    if (n == 1) | (n == 5) {
-        return Phase::Data;
-    }
-    if (n == 2) | (n == 6) {
-        return Phase::Text;
-    }
-    Phase::Closed
 }
 
 impl Session {
@@ -53,21 +46,34 @@ impl Session {
     pub fn from_words(words: &[u64; 11]) -> Session
         ensures { result ≡ session_in words.now }
     {
+        let [
+            w0,
+            w1,
+            w2,
+            w3,
+            w4,
+            w5,
+            data_bytes,
+            text_bytes,
+            steps,
+            kind_and_phase,
+            tag_length,
+        ] = *words;
         Session {
             state: State {
-                w0: words[0],
-                w1: words[1],
-                w2: words[2],
-                w3: words[3],
-                w4: words[4],
-                w5: words[5],
+                w0,
+                w1,
+                w2,
+                w3,
+                w4,
+                w5,
             },
-            data_bytes: words[6],
-            text_bytes: words[7],
-            steps: words[8],
-            kind: kind_in(words[9]),
-            phase: phase_in(words[9]),
-            tag_length: (words[10] % 256) as u8,
+            data_bytes,
+            text_bytes,
+            steps,
+            kind: kind_in(kind_and_phase),
+            phase: phase_in(kind_and_phase),
+            tag_length: (tag_length % 256) as u8,
         }
     }
 
@@ -77,9 +83,6 @@ impl Session {
         ensures { result ≡ words_for (machine_of self) }
     {
         let s = self.state;
-        let kind = self.kind;
-        let phase = self.phase;
-        let n = self.fixed_length() as u64;
         [
             s.w0 - s.w0 % 0x8,
             s.w1 - s.w1 % 0x4_0000,
@@ -90,8 +93,8 @@ impl Session {
             self.data_bytes,
             self.text_bytes,
             self.steps,
-            number(kind, phase),
-            n,
+            number(self.kind, self.phase),
+            self.fixed_length() as u64,
         ]
     }
 }

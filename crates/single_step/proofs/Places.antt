@@ -1,14 +1,16 @@
 -- The formulas in code; stores into the places of a state: one update, the six of them, the shift; and the step that they make together.
 use mathlib.Core.Path.{◌≡◌, refl, ap, ap₂, ◌∙◌, fun_ext}
 use mathlib.Core.Bool.{Bool, true, false, not, ◌&&◌, beq}
-use mathlib.Core.List.{List}
-use Prim.Native.Nat.{ℕ, suc, ◌+◌, ◌≤◌, ◌<◌}
+use mathlib.Core.List.{List, [], ◌∷◌, ◌++◌}
+use Prim.Native.Nat.{ℕ, suc, ◌+◌, ◌<◌}
 use native.Mathlib.Omega.{arith}
 use borrow.Author.Rules.{set_long}
 use borrow.Author.Tests.{eqb-true, eqb-false}
 use lib.Dec.{eqb}
-use lib.ListN.{length, set}
-use lib.Seq.{get_or-set_same, get_or-set_other}
+use lib.ListN.{length, get_or, take, drop, set, length-append, length-drop}
+use lib.Seq.{get_or-set_same, get_or-set_other, length-take-le}
+use Rattle.std.proofs.lemmas.List.{get_or_append_left, get_or-take}
+use Rattle.std.proofs.lemmas.Grind.{get_or_after_one}
 use Rattle.calls.specs.Calls.{◌if◌else◌}
 use Rattle.acorn_model.specs.Bits.{Bits, ◌⊕◌}
 use Rattle.acorn_model.specs.Step.{◌⊕=◌and◌, lfsr_update, maj, ch, ksg128, fbk128, keystream_bit, feedback_bit}
@@ -102,31 +104,29 @@ six-lines s h =
 
 -- ## Step 4
 
--- the first j places of `next` hold what stands one place up in s
-pub record Shifted (s next : List Bool) (j : ℕ) : Type 0 where
-  pub size : length next ≡ 293
-  pub places : j ≤ 292
-  pub below : (p : ℕ) → p < j → state_of next p ≡ state_of s (suc p)
+-- `next`, all zeros, after the line next[0..=291].copy_from_slice(&s[1..=292])
+abbrev shifted : List Bool → List Bool
+shifted moved = moved ++ (false ∷ [])
 
-pub none_shifted : (s next : List Bool) → length next ≡ 293 → Shifted s next 0
-none_shifted s next h = record { size = h; places = omega arith; below = λ p g. absurd (omega arith) }
+module _ (s moved : List Bool) (h : length s ≡ 293) (copied : moved ≡ take 292 (drop 1 s)) where
+  moved-length : length moved ≡ 292
+  moved-length = rw copied (length-take-le 292 (drop 1 s) (omega (arith, length-drop 1 s)))
 
--- the line next[j] = s[j + 1]
-module _ (s next : List Bool) (j : ℕ) (h : Shifted s next j) (g : j < 292) where
-  moved : (p : ℕ) → p < j + 1 → (b : Bool) → eqb p j ≡ b → (state_of s (j + 1) if b else state_of next p) ≡ state_of s (suc p)
-  moved p k true e = ap (state_of s) (omega (arith, eqb-true p j e))
-  moved p k false e = h.below p (omega (arith, eqb-false p j e))
+  shifted-length : length (shifted moved) ≡ 293
+  shifted-length = omega (arith, moved-length, length-append moved (false ∷ []))
 
-  pub one_shifted : Shifted s (set next j (state_of s (j + 1))) (j + 1)
-  one_shifted = record {
-    size = set_long Bool next j 293 _ h.size;
-    places = omega arith;
-    below = λ p k. stored next j _ (omega (arith, h.size)) p ∙ moved p k (eqb p j) refl;
-  }
+  shifted-places : (p : ℕ) → p < 292 → state_of (shifted moved) p ≡ state_of s (suc p)
+  shifted-places p g =
+      let next : 1 + p ≡ suc p = omega arith in
+      get_or_append_left moved (false ∷ []) false p (omega (arith, moved-length))
+      ∙ ap (λ (l : List Bool). get_or l p false) copied
+      ∙ get_or-take 292 (drop 1 s) p false g
+      ∙ get_or_after_one s p false
+      ∙ ap (state_of s) next
 
 -- ## The step
 
-module _ (before next : List Bool) (m ca cb ks f : Bool) (h : length before ≡ 293) (k : ks ≡ ksg128 (state_of (six_lines before)))
+module _ (before moved : List Bool) (m ca cb ks f : Bool) (h : length before ≡ 293) (k : ks ≡ ksg128 (state_of (six_lines before)))
     (g : f ≡ fbk128 ca cb ks (state_of (six_lines before))) where
   ks_is : ks ≡ keystream_bit (state_of before)
   unfolding keystream_bit
@@ -136,11 +136,18 @@ module _ (before next : List Bool) (m ca cb ks f : Bool) (h : length before ≡ 
   unfolding feedback_bit
   f_is = g ∙ ap₂ (fbk128 ca cb) ks_is (six-lines before h).bits
 
-  -- the line next[292] = f ^ m
-  pub step_made : (j : ℕ) → Shifted (six_lines before) next j → 292 ≤ j → Steps before m ca cb ks (set next 292 (f xor m))
-  step_made j shifted end = (
-    ks_is,
-    step-by_bits ca cb m (state_of before) (state_of (set next 292 (f xor m)))
-        (λ p q. get_or-set_other next 292 p (f xor m) false (omega arith) ∙ shifted.below p (omega arith) ∙ ap (λ (S : Bits). S (suc p)) (six-lines before h).bits)
-        (get_or-set_same next 292 (f xor m) false (omega (arith, shifted.size)) ∙ ap (λ (op : Bool → Bool → Bool). op f m) xor_is ∙ ap (λ (b : Bool). b ⊕ m) f_is),
-  )
+  abbrev updated : List Bool
+  updated = six_lines before
+
+  -- with the line next[292] = f ^ m
+  pub step_made : moved ≡ take 292 (drop 1 updated) → Steps before m ca cb ks (set (shifted moved) 292 (f xor m))
+  step_made copied =
+      let size = (six-lines before h).size in
+      let next = shifted moved in (
+        ks_is,
+        step-by_bits ca cb m (state_of before) (state_of (set next 292 (f xor m)))
+            (λ p q. get_or-set_other next 292 p (f xor m) false (omega arith) ∙ shifted-places updated moved size copied p (omega arith)
+            ∙ ap (λ (S : Bits). S (suc p)) (six-lines before h).bits)
+            (get_or-set_same next 292 (f xor m) false (omega (arith, shifted-length updated moved size copied)) ∙ ap (λ (op : Bool → Bool → Bool). op f m) xor_is
+            ∙ ap (λ (b : Bool). b ⊕ m) f_is),
+      )

@@ -61,13 +61,8 @@ pub fn state_update128(mut s: [bool; 293], m: bool, ca: bool, cb: bool) -> Stepp
 
     // step 4: shift, and f ^ m comes in
     let mut next = [false; 293];
-    for j in 0..=291 {
-        next[j] = s[j + 1];
-    }
+    next[0..=291].copy_from_slice(&s[1..=292]);
     next[292] = f ^ m;
 
-    Stepped {
-        state: next,
-        ks: ks,
-    }
+    Stepped { state: next, ks }
 }

@@ -9,8 +9,8 @@ use lib.Dec.{eqb, leb, ltb}
 use lib.ListN.{length, take, drop, replicate, length-drop, length-replicate}
 use lib.Seq.{length-take-le, take_at, drop_at}
 use borrow.Author.Tests.{leb-true, lt-ltb, ltb-true, leb-false, eqb-true, le-leb, eq-eqb}
+use Rattle.std.proofs.lemmas.Bool.{and_parts}
 use Rattle.calls.specs.Calls.{◌if◌else◌, Reply, refused, done, accepted, unless_refused, is_refused, Result, result_of}
-use Rattle.calls.proofs.Choices.{both}
 use Rattle.calls.proofs.Results.{done-told, refused_told, unwritten}
 use Rattle.acorn_model.specs.Machine.{key_length}
 use Rattle.acorn_model.specs.Message.{tag_matches}
@@ -416,7 +416,7 @@ module _ (test : Ticket → Bool) (More : Ticket → Type 0) (passes : (t : Tick
     unfolding unpack_ticket unless_refused values_rule
     form_1_now e =
         let p = unpack-passed 7 (eqb (length s) ticket_length) (form_one_rule.allows values) (ticket_of values) t e in
-        let q = both (in_ranges form1 values) (test (ticket_of values)) p.1 in
+        let q = and_parts (in_ranges form1 values) (test (ticket_of values)) p.1 in
         let o = (passes (ticket_of values)).0 q.1 in
         let r = in-ranges form1 values q.0 in
         let one : form_in s ≡ 1 = omega (arith, r.0) in
@@ -430,7 +430,7 @@ module _ (test : Ticket → Bool) (More : Ticket → Type 0) (passes : (t : Tick
         let p = ticket_told s t e in
         let one : form_in s ≡ 1 = sym (form_first (form_in s) s) ∙ ap (λ (u : Ticket). u.form) p.2 ∙ w.0 in
         let v = form_1_values one in
-        let q = both (in_ranges form1 values) (ordered (ticket_of values)) (sym (ap (λ (form : ℕ). in_ranges (format_of form) values && ordered (ticket_of values)) one) ∙ sym (ap values_rule v) ∙ p.1) in
+        let q = and_parts (in_ranges form1 values) (ordered (ticket_of values)) (sym (ap (λ (form : ℕ). in_ranges (format_of form) values && ordered (ticket_of values)) one) ∙ sym (ap values_rule v) ∙ p.1) in
         let same : ticket_of values ≡ t = sym (ap ticket_of v) ∙ p.2 in
         let right : form_one_rule.allows values ≡ true = ap₂ ◌&&◌ q.0 ((passes (ticket_of values)).1 (q.1, subst More (sym same) w.1)) in
         rw (eq-eqb (length s) ticket_length p.0, right) (ap done same)
@@ -439,10 +439,10 @@ base_passes : (t : Ticket) → (base_ordered t ≡ true) ↔ ((ordered t ≡ tru
 unfolding ordered
 base_passes t = (
   λ h.
-      let p = both (leb t.loaded t.tipped) (ltb t.tare t.gross) h in
+      let p = and_parts (leb t.loaded t.tipped) (ltb t.tare t.gross) h in
       let l = ltb-true t.tare t.gross p.1 in
       (ap₂ ◌&&◌ p.0 (le-leb t.tare t.gross (omega (arith, l))), l),
-  λ h. let p = both (leb t.loaded t.tipped) (leb t.tare t.gross) h.0 in ap₂ ◌&&◌ p.0 (lt-ltb t.tare t.gross h.1),
+  λ h. let p = and_parts (leb t.loaded t.tipped) (leb t.tare t.gross) h.0 in ap₂ ◌&&◌ p.0 (lt-ltb t.tare t.gross h.1),
 )
 
 base_exact : UnpackedIf base_rule (λ t. (t.form ≡ 1) × (t.tare < t.gross))
@@ -464,18 +464,18 @@ rest_remains t = same_truth _ _ forth back
   where
     forth : one_form_rule.allows (ticket_values t) ≡ true → (base_rule.allows (ticket_values (weighing 1 0 t)) && (leb t.gross 1048575 && leb t.tare t.gross)) ≡ true
     forth h =
-        let p = both (in_ranges form1 (ticket_values t)) (one_form_ordered t) h in
+        let p = and_parts (in_ranges form1 (ticket_values t)) (one_form_ordered t) h in
         let r = in-ranges form1 (ticket_values t) p.0 in
-        let o = both (leb t.loaded t.tipped) (leb t.tare t.gross) p.1 in
+        let o = and_parts (leb t.loaded t.tipped) (leb t.tare t.gross) p.1 in
         ap₂ ◌&&◌ (ap₂ ◌&&◌ (ranges_in form1 (ticket_values (weighing 1 0 t)) (omega (arith, r))) (ap₂ ◌&&◌ o.0 refl))
         (ap₂ ◌&&◌ (le-leb t.gross 1048575 (omega (arith, r))) o.1)
 
     back : (base_rule.allows (ticket_values (weighing 1 0 t)) && (leb t.gross 1048575 && leb t.tare t.gross)) ≡ true → one_form_rule.allows (ticket_values t) ≡ true
     back h =
-        let p = both (base_rule.allows (ticket_values (weighing 1 0 t))) (leb t.gross 1048575 && leb t.tare t.gross) h in
-        let q = both (in_ranges form1 (ticket_values (weighing 1 0 t))) (base_ordered (weighing 1 0 t)) p.0 in
-        let o = both (leb t.loaded t.tipped) (ltb 0 1) q.1 in
-        let w = both (leb t.gross 1048575) (leb t.tare t.gross) p.1 in
+        let p = and_parts (base_rule.allows (ticket_values (weighing 1 0 t))) (leb t.gross 1048575 && leb t.tare t.gross) h in
+        let q = and_parts (in_ranges form1 (ticket_values (weighing 1 0 t))) (base_ordered (weighing 1 0 t)) p.0 in
+        let o = and_parts (leb t.loaded t.tipped) (ltb 0 1) q.1 in
+        let w = and_parts (leb t.gross 1048575) (leb t.tare t.gross) p.1 in
         let a = leb-true t.gross 1048575 w.0 in
         let b = leb-true t.tare t.gross w.1 in
         let r = in-ranges form1 (ticket_values (weighing 1 0 t)) q.0 in
@@ -495,16 +495,16 @@ form_2 t e = ap (λ (form : ℕ). in_ranges (format_of form) (ticket_values t) &
 
     forth : (in_ranges form2 (ticket_values t) && ordered t) ≡ true → (one_form_rule.allows (ticket_values other) && (leb t.loaded t.tipped && leb t.tipped 86399)) ≡ true
     forth h =
-        let p = both (in_ranges form2 (ticket_values t)) (ordered t) h in
+        let p = and_parts (in_ranges form2 (ticket_values t)) (ordered t) h in
         let r = in-ranges form2 (ticket_values t) p.0 in
-        let o = both (leb t.loaded t.tipped) (leb t.tare t.gross) p.1 in
+        let o = and_parts (leb t.loaded t.tipped) (leb t.tare t.gross) p.1 in
         ap₂ ◌&&◌ (ap₂ ◌&&◌ (ranges_in form1 (ticket_values other) (omega (arith, r))) o.1) (ap₂ ◌&&◌ o.0 (le-leb t.tipped 86399 (omega (arith, r))))
 
     back : (one_form_rule.allows (ticket_values other) && (leb t.loaded t.tipped && leb t.tipped 86399)) ≡ true → (in_ranges form2 (ticket_values t) && ordered t) ≡ true
     back h =
-        let p = both (one_form_rule.allows (ticket_values other)) (leb t.loaded t.tipped && leb t.tipped 86399) h in
-        let q = both (in_ranges form1 (ticket_values other)) (one_form_ordered other) p.0 in
-        let w = both (leb t.loaded t.tipped) (leb t.tipped 86399) p.1 in
+        let p = and_parts (one_form_rule.allows (ticket_values other)) (leb t.loaded t.tipped && leb t.tipped 86399) h in
+        let q = and_parts (in_ranges form1 (ticket_values other)) (one_form_ordered other) p.0 in
+        let w = and_parts (leb t.loaded t.tipped) (leb t.tipped 86399) p.1 in
         let a = leb-true t.loaded t.tipped w.0 in
         let b = leb-true t.tipped 86399 w.1 in
         let r = in-ranges form1 (ticket_values other) q.0 in

@@ -8,8 +8,8 @@ use lib.ListN.{length, take, drop, length-drop}
 use lib.Seq.{drop-drop, length-take-le}
 use lib.Dec.{eqb, leb}
 use borrow.Author.Tests.{leb-true, not-false}
+use Rattle.std.proofs.lemmas.Bool.{and_parts}
 use Rattle.calls.specs.Calls.{Reply, refused, done, map_reply}
-use Rattle.calls.proofs.Choices.{both}
 use Rattle.tape_model.specs.declared.Ticket.{Ticket}
 use Rattle.tape_model.specs.Ticket.{unpack_ticket}
 use Rattle.tape_model.specs.Tape.{is_tickets_length, ticket_then, unpack_tickets, plain_tickets, of_plain}
@@ -68,7 +68,7 @@ module _ (s : List ℕ) (r : Bool) (sized : r ≡ is_tickets_length (length s)) 
   module _ (right : not r ≡ false) where
     pub few_tickets : length s / 13 ≤ 5000
     unfolding is_tickets_length
-    few_tickets = leb-true (length s / 13) 5000 (both (eqb (length s % 13) 0) (leb (length s / 13) 5000) (sym sized ∙ not-false r right)).1
+    few_tickets = leb-true (length s / 13) 5000 (and_parts (eqb (length s % 13) 0) (leb (length s / 13) 5000) (sym sized ∙ not-false r right)).1
 
     pub right_length : {A : Type 0} (f : List Ticket → A) (a : Reply A) → a ≡ map_reply f (unpack_tickets (length s / 13) s) → a ≡ of_plain f s
     unfolding of_plain plain_tickets

@@ -8,11 +8,11 @@ use lib.Dec.{eqb, leb, ltb}
 use lib.ListN.{length, take, drop, length-drop}
 use lib.Seq.{take_at}
 use borrow.Author.Tests.{eqb-true, leb-true, ltb-false, eq-eqb, le-leb, not-false}
+use Rattle.std.proofs.lemmas.Bool.{and_parts}
 use Rattle.calls.specs.Calls.{◌if◌else◌, done, written_over, is_refused}
 use Rattle.acorn_model.specs.Machine.{key_length}
 use Rattle.acorn_model.specs.Stretches.{full_tag_length}
 use Rattle.acorn_model.specs.Message.{tag_matches}
-use Rattle.calls.proofs.Choices.{both}
 use Rattle.acorn_model.proofs.Messages.{opened-length}
 use Rattle.calls.proofs.Results.{done-told}
 use Rattle.tape_model.specs.Ticket.{ticket_length, head_length, unpack_head}
@@ -28,9 +28,9 @@ pub record TapeSize (n : ℕ) : Type 0 where
 pub sizes_told : (key : List ℕ) (n : ℕ) (sized : Bool) → sized ≡ is_tape_length n → not (eqb (length key) key_length && sized) ≡ false → (length key ≡ key_length) × TapeSize n
 unfolding is_tape_length is_tickets_length
 sizes_told key n sized s e =
-    let a = both (eqb (length key) key_length) sized (not-false _ e) in
-    let l = both (leb empty_tape_length n) _ (sym s ∙ a.1) in
-    let t = both (eqb ((n - empty_tape_length) % ticket_length) 0) _ l.1 in
+    let a = and_parts (eqb (length key) key_length) sized (not-false _ e) in
+    let l = and_parts (leb empty_tape_length n) _ (sym s ∙ a.1) in
+    let t = and_parts (eqb ((n - empty_tape_length) % ticket_length) 0) _ l.1 in
     (eqb-true _ _ a.0, record { long = leb-true _ _ l.0; whole = eqb-true _ _ t.0; few = leb-true _ _ t.1 })
 
 -- 13 bytes for each ticket are all the text

@@ -7,8 +7,8 @@ use native.Mathlib.Omega.{arith}
 use lib.Dec.{leb}
 use lib.ListN.{length, length-replicate}
 use borrow.Author.Tests.{leb-true, le-leb}
+use Rattle.std.proofs.lemmas.Bool.{and_parts}
 use Rattle.calls.specs.Calls.{AreBytes}
-use Rattle.calls.proofs.Choices.{both}
 use Rattle.tape_model.specs.Format.{Field, ◌bits◌to◌, widths, in_range, in_ranges, join, cut, Fit, byte_widths, pack}
 use Rattle.tape_model.proofs.Widths.{cut-fit}
 
@@ -24,13 +24,13 @@ InRanges (f ∷ fs) [] = ⊥
 InRanges (f ∷ fs) (v ∷ vs) = InRange f v × InRanges fs vs
 
 in-range : (f : Field) (v : ℕ) → in_range f v ≡ true → InRange f v
-in-range (width bits low to high) v h = let p = both (leb low v) (leb v high) h in (leb-true _ _ p.0, leb-true _ _ p.1)
+in-range (width bits low to high) v h = let p = and_parts (leb low v) (leb v high) h in (leb-true _ _ p.0, leb-true _ _ p.1)
 
 pub in-ranges : (fs : List Field) (vs : List ℕ) → in_ranges fs vs ≡ true → InRanges fs vs
 in-ranges [] [] h = tt
 in-ranges [] (v ∷ vs) h = absurd (false≢true h)
 in-ranges (f ∷ fs) [] h = absurd (false≢true h)
-in-ranges (f ∷ fs) (v ∷ vs) h = let p = both (in_range f v) (in_ranges fs vs) h in (in-range f v p.0, in-ranges fs vs p.1)
+in-ranges (f ∷ fs) (v ∷ vs) h = let p = and_parts (in_range f v) (in_ranges fs vs) h in (in-range f v p.0, in-ranges fs vs p.1)
 
 -- and back
 ranges_in_one : (f : Field) (v : ℕ) → InRange f v → in_range f v ≡ true

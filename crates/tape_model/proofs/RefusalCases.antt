@@ -4,8 +4,8 @@ use mathlib.Core.Bool.{Bool, true, ◌&&◌, beq}
 use mathlib.Core.List.{List, [], ◌∷◌}
 use lib.Dec.{eqb}
 use borrow.Author.Tests.{eqb-true}
+use Rattle.std.proofs.lemmas.Bool.{and_parts}
 use Rattle.calls.specs.Calls.{map_reply, unless_refused, result_of}
-use Rattle.calls.proofs.Choices.{both}
 use Rattle.acorn_model.proofs.StepCases.{same}
 use Rattle.tape_model.specs.Ticket.{ordered, values_rule, ticket_rule, net, pack_ticket, unpack_ticket, pack_ticket_into, head_rule, pack_head, unpack_head, pack_head_into}
 use Rattle.tape_model.specs.Tape.{is_tickets_length, total_net, unpack_tickets, plain_tickets, of_plain, plain_totals, is_tape_length, open_tape_refusal}
@@ -25,11 +25,11 @@ all_get (c ∷ cs) = gets c && all_get cs
 shown : (c : RefusalCase) → gets c ≡ true → Gets c
 shown (writes phase tickets call number) h = eqb-true _ _ h
 shown (opens key tape out number) h = eqb-true _ _ h
-shown (sizes bytes tape tickets) h = let p = both (beq (is_tape_length bytes) tape) _ h in (same _ _ p.0, same _ _ p.1)
+shown (sizes bytes tape tickets) h = let p = and_parts (beq (is_tape_length bytes) tape) _ h in (same _ _ p.0, same _ _ p.1)
 
 shown_all : (cs : List RefusalCase) → all_get cs ≡ true → AllGet cs
 shown_all [] h = tt
-shown_all (c ∷ cs) h = let p = both (gets c) (all_get cs) h in (shown c p.0, shown_all cs p.1)
+shown_all (c ∷ cs) h = let p = and_parts (gets c) (all_get cs) h in (shown c p.0, shown_all cs p.1)
 
 pub refusal-cases : AllGet tape_refusal_cases
 unfolding refusal phase_allows key_right head_right ticket_right tape_full output_short head_rule ticket_rule values_rule ordered open_tape_refusal is_tape_length is_tickets_length unpack_head unless_refused pack_head

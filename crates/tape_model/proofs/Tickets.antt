@@ -8,8 +8,8 @@ use native.Mathlib.Omega.{arith}
 use lib.Dec.{leb, eqb}
 use lib.ListN.{length, get_or}
 use borrow.Author.Tests.{eqb-true, eq-eqb, ne_eqb, leb-true}
+use Rattle.std.proofs.lemmas.Bool.{and_parts}
 use Rattle.calls.specs.Calls.{◌if◌else◌, AreBytes, refused, done, unless_refused}
-use Rattle.calls.proofs.Choices.{both}
 use Rattle.tape_model.specs.declared.Ticket.{Ticket}
 use Rattle.tape_model.specs.declared.Head.{Head}
 use Rattle.tape_model.specs.Format.{widths, in_ranges, total_width, join, cut, Fit, byte_widths, unpack, Field}
@@ -36,13 +36,13 @@ of_two P first second form = by (eqb form 2)
 pub in_order : (t : Ticket) → ordered t ≡ true → (t.loaded ≤ t.tipped) × (t.tare ≤ t.gross)
 unfolding ordered
 in_order t h =
-    let p = both (leb t.loaded t.tipped) (leb t.tare t.gross) h in
+    let p = and_parts (leb t.loaded t.tipped) (leb t.tare t.gross) h in
     (leb-true _ _ p.0, leb-true _ _ p.1)
 
 pub ticket-rule : (t : Ticket) → ticket_rule t ≡ true → InRanges (format_of t.form) (ticket_values t) × (t.loaded ≤ t.tipped) × (t.tare ≤ t.gross)
 unfolding ticket_rule values_rule
 ticket-rule t h =
-    let p = both (in_ranges (format_of t.form) (ticket_values t)) (ordered t) h in
+    let p = and_parts (in_ranges (format_of t.form) (ticket_values t)) (ordered t) h in
     let o = in_order t p.1 in
     (in-ranges (format_of t.form) (ticket_values t) p.0, o.0, o.1)
 
@@ -107,7 +107,7 @@ table = of_two Table table1 table2
 
 ranges_of : (vs : List ℕ) → values_rule vs ≡ true → InRanges (format_of (get_or vs 0 0)) vs
 unfolding values_rule
-ranges_of vs h = in-ranges (format_of (get_or vs 0 0)) vs (both (in_ranges (format_of (get_or vs 0 0)) vs) (ordered (ticket_of vs)) h).0
+ranges_of vs h = in-ranges (format_of (get_or vs 0 0)) vs (and_parts (in_ranges (format_of (get_or vs 0 0)) vs) (ordered (ticket_of vs)) h).0
 
 -- the first four bits are the form, whichever form the rest is read by
 pub form_first : (form : ℕ) (s : List ℕ) → get_or (unpack (widths (format_of form)) s) 0 0 ≡ form_in s
@@ -133,7 +133,7 @@ ticket_laid : Laid format_of form_told form_in ticket_length 7 values_rule ticke
 unfolding values_rule
 ticket_laid =
     record {
-      ranges = λ vs h. (both (in_ranges (format_of (get_or vs 0 0)) vs) (ordered (ticket_of vs)) h).0;
+      ranges = λ vs h. (and_parts (in_ranges (format_of (get_or vs 0 0)) vs) (ordered (ticket_of vs)) h).0;
       roomy = λ form. (table form).roomy;
       whole = λ form. (table form).whole;
       back = λ t. refl;

@@ -8,8 +8,8 @@ use lib.Dec.{eqb, leb}
 use lib.ListN.{length, get_or, take, drop, length-drop}
 use lib.Seq.{drop-drop, length-take-le}
 use borrow.Author.Tests.{eq-eqb, eqb-true, leb-true}
+use Rattle.std.proofs.lemmas.Bool.{and_parts}
 use Rattle.calls.specs.Calls.{◌if◌else◌, Reply, refused, done, accepted, unless_refused, reply_of, is_refused}
-use Rattle.calls.proofs.Choices.{both}
 use Rattle.tape_model.specs.declared.Ticket.{Ticket}
 use Rattle.tape_model.specs.Ticket.{ticket_length, ticket_of, Rule, rule_in_force, ticket_values_under, unpack_ticket_under, unpack_ticket}
 use Rattle.tape_model.specs.Tape.{ticket_limit, is_tickets_length, ticket_then, unpack_tickets_by, unpack_tickets, plain_tickets, tickets_in}
@@ -108,7 +108,7 @@ module _ (s : List ℕ) where
   pub held_few : (ts : List Ticket) → plain_tickets s ≡ done ts → (length s ≡ ticket_length * length ts) × (length ts ≤ ticket_limit)
   unfolding is_tickets_length
   held_few ts e =
-      let p = both (eqb (length s % ticket_length) 0) (leb (length s / ticket_length) ticket_limit) (held_size ts e) in
+      let p = and_parts (eqb (length s % ticket_length) 0) (leb (length s / ticket_length) ticket_limit) (held_size ts e) in
       let c = held-count ts e in
       (omega (arith, c, eqb-true (length s % ticket_length) 0 p.0), omega (arith, c, leb-true (length s / ticket_length) ticket_limit p.1))
 

@@ -1,9 +1,9 @@
 -- Document 01, "Ticket, head, tape", on the reader: it hands out the tickets of opened bytes in turn.
-use Rattle.std.specs.Prelude.{not, List, ℕ, ◌+◌, ◌*◌, ◌/◌, leb, length, take, drop}
+use Rattle.std.specs.Prelude.{Result, Ok, Err, Option, Some, None, not, List, ℕ, ◌+◌, ◌*◌, ◌/◌, leb, length, take, drop}
+use Rattle.calls.specs.declared.Refusal.{Refusal}
+use Rattle.calls.specs.Refusals.{refusal_number}
 use Rattle.calls.specs.Calls.{◌if◌else◌, Reply, refused, done}
 use Rattle.tape_model.specs.declared.Ticket.{Ticket}
-use Rattle.tape_model.specs.declared.NextTicket.{NextTicket}
-use Rattle.tape_model.specs.declared.NextTicket.TheVariants.{Refused, Done, End}
 use Rattle.tape_model.specs.Ticket.{ticket_length, unpack_ticket}
 use Rattle.tape_model.specs.Tape.{is_tickets_length}
 
@@ -44,7 +44,7 @@ unfoldable pub read_next : Reader → ReadOutcome
 read_next r = read_next_by unpack_ticket r
 
 -- document 01's number and values for each case of the answer in code
-unfoldable pub next_reply : NextTicket → Reply Reading
-next_reply (Refused n) = refused n
-next_reply (Done t) = done (ticket t)
-next_reply End = done at_end
+unfoldable pub next_reply : Result (Option Ticket) Refusal → Reply Reading
+next_reply (Err r) = refused (refusal_number r)
+next_reply (Ok (Some t)) = done (ticket t)
+next_reply (Ok None) = done at_end

@@ -5,10 +5,7 @@ use Rattle.acorn_model.specs.Machine.{key_length}
 use Rattle.acorn_model.specs.Message.{sealed, tag_matches, opened}
 use Rattle.tape_model.specs.declared.Ticket.{Ticket}
 use Rattle.tape_model.specs.declared.Head.{Head}
-use Rattle.tape_model.specs.declared.TicketTotals.{TicketTotals}
-use Rattle.tape_model.specs.declared.TicketTotals.TheVariants.{Refused as NoTotals, Done as TotalsDone}
-use Rattle.tape_model.specs.declared.OpenedTape.{OpenedTape}
-use Rattle.tape_model.specs.declared.OpenedTape.TheVariants.{Refused, Done}
+pub use Rattle.tape_model.specs.declared.Totals.{Totals}
 use Rattle.tape_model.specs.Ticket.{ticket_length, net, pack_ticket, unpack_ticket, head_length, pack_head, unpack_head}
 
 -- ## What a tape is
@@ -77,11 +74,6 @@ unfoldable pub total_net : List Ticket → ℕ
 total_net [] = 0
 total_net (t ∷ ts) = net t + total_net ts
 
--- the number of tickets, and their total net
-pub record Totals : Type 0 where
-  pub tickets : ℕ
-  pub net : ℕ
-
 abbrev pub totals_of : List Ticket → Totals
 totals_of tickets = record { tickets = length tickets; net = total_net tickets }
 
@@ -130,13 +122,3 @@ module _ (key tape : List ℕ) where
 
   unfoldable pub open_tape : List ℕ → Result Totals
   open_tape out = open_tape_unless (open_tape_refusal out) (unpack_tickets (ticket_count tape) plain_bytes) out
-
--- ## Document 01's number and values for each case of the answers in code
-
-unfoldable pub totals_reply : TicketTotals → Reply Totals
-totals_reply (NoTotals n) = refused n
-totals_reply (TotalsDone tickets net) = done (record { tickets = tickets; net = net })
-
-unfoldable pub opened_reply : OpenedTape → Reply Totals
-opened_reply (Refused n) = refused n
-opened_reply (Done tickets net) = done (record { tickets = tickets; net = net })

@@ -1,13 +1,9 @@
 -- Document 01, "Ticket, head, tape", on tickets and heads: their formats and rules, how they are packed, and what bytes unpack to. Document 02, P6, adds
 -- the second form.
 use Rattle.std.specs.Prelude.{Bool, not, ◌&&◌, List, [], ◌∷◌, ℕ, ◌-◌, leb, ltb, eqb, length, get_or}
-use Rattle.calls.specs.Calls.{reply_of, ◌if◌else◌, Reply, refused, done, accepted, Result, result_of}
+use Rattle.calls.specs.Calls.{reply_of, ◌if◌else◌, Reply, accepted, Result, result_of}
 use Rattle.tape_model.specs.declared.Ticket.{Ticket}
 use Rattle.tape_model.specs.declared.Head.{Head}
-use Rattle.tape_model.specs.declared.UnpackedTicket.{UnpackedTicket}
-use Rattle.tape_model.specs.declared.UnpackedTicket.TheVariants.{Refused as NoTicket, Done as TicketDone}
-use Rattle.tape_model.specs.declared.UnpackedHead.{UnpackedHead}
-use Rattle.tape_model.specs.declared.UnpackedHead.TheVariants.{Refused as NoHead, Done as HeadDone}
 use Rattle.tape_model.specs.Format.{Field, ◌bits◌to◌, widths, in_ranges, pack, unpack}
 
 -- ## Tickets
@@ -203,13 +199,3 @@ pack_head_refusal h out =
 
 unfoldable pub pack_head_into : Head → List ℕ → Result ℕ
 pack_head_into h out = result_of (pack_head_refusal h out) head_length (pack_head h) out
-
--- ## Document 01's number and values for each case of the answers in code
-
-unfoldable pub ticket_reply : UnpackedTicket → Reply Ticket
-ticket_reply (NoTicket n) = refused n
-ticket_reply (TicketDone t) = done t
-
-unfoldable pub head_reply : UnpackedHead → Reply Head
-head_reply (NoHead n) = refused n
-head_reply (HeadDone h) = done h

@@ -1,9 +1,10 @@
-// Tickets and heads by value, the phases of a tape's writer, the answers of calls on tickets and tapes, and the lengths that tapes are made of.
+// Tickets and heads by value, the phases of a tape's writer, the totals of tickets, and the lengths that tapes are made of.
 #![tactic(auto)]
 
 #[repr(C)]
-#[derive(Clone, Copy)]
+#[derive(Clone, Copy, Debug, Default, PartialEq, Eq)]
 pub struct Ticket {
+    // A number, and no enum: C hands in any number, and a ticket of another form than 1 and 2 is one that `ticket_rule` refuses.
     pub form: u8,
     pub truck: u16,
     pub shovel: u8,
@@ -16,54 +17,25 @@ pub struct Ticket {
 }
 
 #[repr(C)]
-#[derive(Clone, Copy)]
+#[derive(Clone, Copy, Debug, Default, PartialEq, Eq)]
 pub struct Head {
     pub device: u32,
     pub shift: u32,
     pub sheet: u32,
 }
 
-#[derive(Clone, Copy)]
+#[derive(Clone, Copy, Debug, PartialEq, Eq)]
 pub enum WriterPhase {
     Fresh,
     Open,
     Closed,
 }
 
-// The answer of unpacking a ticket, and of moving one to a form: a refusal number, or the ticket.
-#[derive(Clone, Copy)]
-pub enum UnpackedTicket {
-    Refused(u8),
-    Done(Ticket),
-}
-
-// The answer of unpacking a head: a refusal number, or the head.
-#[derive(Clone, Copy)]
-pub enum UnpackedHead {
-    Refused(u8),
-    Done(Head),
-}
-
-// The answer of summing up opened bytes: a refusal number, or the number of tickets and their total net.
-#[derive(Clone, Copy)]
-pub enum TicketTotals {
-    Refused(u8),
-    Done(usize, u64),
-}
-
-// The answer of opening a tape: the same.
-#[derive(Clone, Copy)]
-pub enum OpenedTape {
-    Refused(u8),
-    Done(usize, u64),
-}
-
-// The answer of a reader: a refusal number, the next ticket, or that it is at the end.
-#[derive(Clone, Copy)]
-pub enum NextTicket {
-    Refused(u8),
-    Done(Ticket),
-    End,
+// What plain bytes come to: the number of their tickets, and the total net.
+#[derive(Clone, Copy, Debug, PartialEq, Eq)]
+pub struct Totals {
+    pub tickets: usize,
+    pub net: u64,
 }
 
 // Bytes of a packed head, of a packed ticket, of a tape's tag, and of a tape without tickets; the most tickets on a tape.

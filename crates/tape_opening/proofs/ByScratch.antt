@@ -5,33 +5,28 @@ use Prim.Native.Nat.{ℕ, zero, suc, ◌+◌, ◌-◌, ◌*◌, ◌≤◌}
 use native.Mathlib.Omega.{arith}
 use lib.ListN.{length, take, drop}
 use lib.Seq.{take_at, take-length}
-use borrow.Author.Tests.{le-ltb}
 use Rattle.calls.specs.Calls.{Reply, refused, done, unless_refused, written_over, Result, result_of}
 use Rattle.tape_model.specs.Ticket.{ticket_length}
-use Rattle.tape_model.specs.Tape.{unpack_tickets, tickets_in, total_net, Totals, empty_tape_length, ticket_count, plain_bytes, open_tape_refusal, open_tape}
-use Rattle.tape_model.proofs.Opening.{text-length, plain-length}
-use Rattle.tape_opening.specs.Clauses.{scratch_after, open_scratch, OnlyText}
-use Rattle.tape_opening.proofs.Sizes.{Openable, openable}
+use Rattle.tape_model.specs.declared.Totals.{Totals}
+use Rattle.tape_model.specs.Tape.{unpack_tickets, tickets_in, total_net, empty_tape_length, ticket_count, plain_bytes, open_tape_refusal, open_tape}
+use Rattle.tape_model.proofs.Opening.{TapeSize, text-length, plain-length}
+use Rattle.tape_opening.specs.Clauses.{scratch_after, open_scratch, sealed_refusal}
+use Rattle.tape_opening.proofs.Sizes.{tape_size, openable}
 
 -- the answer where no number applies
 abbrev totals : List ℕ → List ℕ → Totals
 totals key tape = record { tickets = ticket_count tape; net = total_net (tickets_in (unpack_tickets (ticket_count tape) (plain_bytes key tape))) }
 
-module _ (key tape scratch out : List ℕ) (room : length tape ≤ length scratch + empty_tape_length) (only-text : OnlyText key tape out) where
-  abbrev o : Openable key tape out
-  o = openable key tape out only-text
+module _ (key tape : List ℕ) (sealed : sealed_refusal key tape ≡ 0) (scratch out : List ℕ) (room : length tape ≤ length scratch + empty_tape_length) (room-out : length tape ≤ length out + empty_tape_length) where
+  text_size : TapeSize (length tape)
+  text_size = tape_size key tape sealed
 
   text-is : ticket_length * ticket_count tape ≡ length tape - empty_tape_length
-  text-is = text-length (length tape) o.tape_size
+  text-is = text-length (length tape) text_size
 
   -- the same numbers apply, since there is room in both
   same_number : open_tape_refusal key tape scratch ≡ open_tape_refusal key tape out
-  unfolding open_tape_refusal
-  same_number =
-      rw (le-ltb (length scratch) (ticket_length * ticket_count tape) (omega (arith, text-is)), le-ltb (length out) (ticket_length * ticket_count tape) (omega (arith, text-is, o.room)))
-
-  pub into_scratch : OnlyText key tape scratch
-  into_scratch = same_number ∙ only-text
+  same_number = (openable key tape sealed scratch room).only_text ∙ sym (openable key tape sealed out room-out).only_text
 
   module _ (a : Reply Totals) (filled : List ℕ) (e : open_scratch key tape scratch ≡ record { answer = a; out = filled }) where
     told : ((open_tape key tape scratch).answer ≡ a) × (scratch_after (open_tape_refusal key tape scratch) (plain_bytes key tape) scratch ≡ filled)

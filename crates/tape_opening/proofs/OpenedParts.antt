@@ -2,7 +2,7 @@
 use mathlib.Core.Path.{◌≡◌, refl, sym, ap, ◌∙◌}
 use mathlib.Core.Bool.{Bool, true, false}
 use mathlib.Core.List.{List}
-use Prim.Native.Nat.{ℕ, ◌+◌, ◌-◌}
+use Prim.Native.Nat.{ℕ, ◌+◌, ◌-◌, ◌≤◌}
 use native.Mathlib.Omega.{arith}
 use lib.ListN.{length, take, drop, replicate, length-append, length-drop}
 use lib.Seq.{length-take-le, take_all, take_at}
@@ -14,13 +14,14 @@ use Rattle.acorn_model.specs.Stretches.{full_tag_length}
 use Rattle.acorn_model.proofs.Messages.{opened-length}
 use Rattle.tape_model.specs.declared.Ticket.{Ticket}
 use Rattle.tape_model.specs.Ticket.{head_length}
-use Rattle.tape_model.specs.Tape.{nonce_of, is_tickets_length, unpack_tickets, Totals, totals_of, of_plain, plain_totals, empty_tape_length, head_bytes, sealed_bytes, ticket_count, plain_bytes, open_tape_refusal, open_tape, plain_tickets}
+use Rattle.tape_model.specs.declared.Totals.{Totals}
+use Rattle.tape_model.specs.Tape.{nonce_of, is_tickets_length, unpack_tickets, totals_of, of_plain, plain_totals, empty_tape_length, head_bytes, sealed_bytes, ticket_count, plain_bytes, open_tape_refusal, open_tape, plain_tickets}
 use Rattle.tape_model.proofs.Unpacking.{unpacked_count}
 use Rattle.message.specs.Clauses.{decryptable, DecryptsInto}
 use Rattle.ticket.specs.Packing.{nonce_or_zeros}
 use Rattle.ticket.proofs.Nonce.{nonce_is}
-use Rattle.tape_opening.specs.Clauses.{scratch_after, open_scratch, text_refusal, OnlyText}
-use Rattle.tape_opening.proofs.Sizes.{Openable, openable, refused_into}
+use Rattle.tape_opening.specs.Clauses.{scratch_after, open_scratch, sealed_refusal}
+use Rattle.tape_opening.proofs.Sizes.{text_refusal, Openable, openable, refused_into}
 
 abbrev net_of : Reply Totals → ℕ
 net_of (refused n) = 0
@@ -33,17 +34,17 @@ count_of (done k) = k.tickets
 pub rest-is : (tape : List ℕ) → take (length tape - head_length) (drop head_length tape) ≡ sealed_bytes tape
 rest-is tape = take_all (length tape - head_length) (drop head_length tape) (omega (arith, length-drop head_length tape))
 
-module _ (key tape scratch : List ℕ) (only-text : OnlyText key tape scratch) where
+module _ (key tape : List ℕ) (sealed : sealed_refusal key tape ≡ 0) (scratch : List ℕ) (room : length tape ≤ length scratch + empty_tape_length) where
   abbrev o : Openable key tape scratch
-  o = openable key tape scratch only-text
+  o = openable key tape sealed scratch room
 
   plain-length : length (plain_bytes key tape) ≡ length tape - empty_tape_length
   unfolding plain_bytes
   plain-length = opened-length full_tag_length key (nonce_of (head_bytes tape)) (head_bytes tape) (sealed_bytes tape) ∙ omega (arith, length-drop head_length tape)
 
   -- what decrypting the sealed bytes came to
-  module _ (nonce sealed mid : List ℕ) (good : Bool) (nonce_told : nonce ≡ nonce_or_zeros (head_bytes tape)) (sealed-is : sealed ≡ sealed_bytes tape)
-      (decrypted : DecryptsInto key nonce (head_bytes tape) sealed scratch good mid) where
+  module _ (nonce given mid : List ℕ) (good : Bool) (nonce_told : nonce ≡ nonce_or_zeros (head_bytes tape)) (given-is : given ≡ sealed_bytes tape)
+      (decrypted : DecryptsInto key nonce (head_bytes tape) given scratch good mid) where
     abbrev head : List ℕ
     head = head_bytes tape
 
@@ -54,7 +55,7 @@ module _ (key tape scratch : List ℕ) (only-text : OnlyText key tape scratch) w
     nonce_size = length-append head (replicate 7 0) ∙ ap (λ (n : ℕ). n + 7) head_size
 
     by_model : DecryptsInto key (nonce_of head) head (sealed_bytes tape) scratch good mid
-    by_model = rw (nonce_told ∙ nonce_is head head_size, sealed-is) at decrypted
+    by_model = rw (nonce_told ∙ nonce_is head head_size, given-is) at decrypted
 
     sized : decryptable key (nonce_of head) (sealed_bytes tape) scratch ≡ true
     sized = rw (
@@ -70,7 +71,7 @@ module _ (key tape scratch : List ℕ) (only-text : OnlyText key tape scratch) w
     pub wrong_tag : good ≡ false → open_scratch key tape scratch ≡ record { answer = refused 7; out = mid }
     wrong_tag bad =
         let cleared : mid ≡ replicate (length scratch) 0 = rw (sized, verdict, bad) at by_model.left in
-        refused_into key tape scratch 6 true refl (only-text ∙ (unfold text_refusal in rw (verdict ∙ bad))) ∙ ap (λ (l : List ℕ). record { answer = refused 7; out = l }) (sym cleared)
+        refused_into key tape scratch 6 true refl (o.only_text ∙ (unfold text_refusal in rw (verdict ∙ bad))) ∙ ap (λ (l : List ℕ). record { answer = refused 7; out = l }) (sym cleared)
 
     module _ (piece : List ℕ) (t : Reply Totals) (right : good ≡ true) (piece_is : piece ≡ take (length tape - empty_tape_length) mid) (t_is : t ≡ plain_totals piece) where
       abbrev tickets : Reply (List Ticket)
@@ -93,7 +94,7 @@ module _ (key tape scratch : List ℕ) (only-text : OnlyText key tape scratch) w
           ∙ rw (plain-length, eq-eqb _ 0 o.tape_size.whole, le-leb _ _ o.tape_size.few) refl
 
       number_is : open_tape_refusal key tape scratch ≡ (8 if is_refused tickets else 0)
-      number_is = only-text ∙ (unfold text_refusal in rw (verdict ∙ right))
+      number_is = o.only_text ∙ (unfold text_refusal in rw (verdict ∙ right))
 
       pub wrong_ticket : (n : ℕ) → t ≡ refused n → open_scratch key tape scratch ≡ record { answer = refused 8; out = replicate (length scratch) 0 }
       unfolding map_reply

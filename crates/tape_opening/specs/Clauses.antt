@@ -1,13 +1,16 @@
 -- The contracts of opening a tape into an output and into a scratch.
-use Rattle.std.specs.Prelude.{◌≡◌, not, ◌||◌, List, ℕ, eqb, length, replicate}
-use Rattle.calls.specs.Calls.{◌if◌else◌, accepted, written_over, Result, is_refused}
-use Rattle.acorn_model.specs.Message.{tag_matches}
-use Rattle.tape_model.specs.declared.OpenedTape.{OpenedTape}
-use Rattle.tape_model.specs.Tape.{nonce_of, unpack_tickets, Totals, head_bytes, sealed_bytes, ticket_count, plain_bytes, open_tape_refusal, open_tape, opened_reply}
+use Rattle.std.specs.Prelude as std
+use Rattle.std.specs.Prelude.{◌≡◌, not, ◌&&◌, ◌||◌, List, ℕ, eqb, length, replicate}
+use Rattle.calls.specs.declared.Refusal.{Refusal}
+use Rattle.calls.specs.Calls.{◌if◌else◌, accepted, written_over, Result, as_reply, is_refused}
+use Rattle.acorn_model.specs.Machine.{key_length}
+use Rattle.tape_model.specs.declared.Totals.{Totals}
+use Rattle.tape_model.specs.Ticket.{unpack_head}
+use Rattle.tape_model.specs.Tape.{is_tape_length, head_bytes, plain_bytes, open_tape_refusal, open_tape}
 
 -- opening into `out` answered r, and left `after` there
-abbrev pub OpensTape : List ℕ → List ℕ → List ℕ → OpenedTape → List ℕ → Type 0
-OpensTape key tape out r after = open_tape key tape out ≡ record { answer = opened_reply r; out = after }
+abbrev pub OpensTape : List ℕ → List ℕ → List ℕ → std.Result Totals Refusal → List ℕ → Type 0
+OpensTape key tape out r after = open_tape key tape out ≡ record { answer = as_reply r; out = after }
 
 -- ## Opening into a scratch
 
@@ -24,18 +27,14 @@ unfoldable pub open_scratch : List ℕ → List ℕ → List ℕ → Result Tota
 open_scratch key tape scratch = record { answer = (open_tape key tape scratch).answer; out = scratch_after (open_tape_refusal key tape scratch) (plain_bytes key tape) scratch }
 
 -- opening into a scratch answered r, and left `after` there
-abbrev pub OpensScratch : List ℕ → List ℕ → List ℕ → OpenedTape → List ℕ → Type 0
-OpensScratch key tape scratch r after = open_scratch key tape scratch ≡ record { answer = opened_reply r; out = after }
+abbrev pub OpensScratch : List ℕ → List ℕ → List ℕ → std.Result Totals Refusal → List ℕ → Type 0
+OpensScratch key tape scratch r after = open_scratch key tape scratch ≡ record { answer = as_reply r; out = after }
 
 -- ## What the private functions cite
 
--- the numbers that an opened tape's tag and tickets give, where no smaller one applies
-unfoldable pub text_refusal : List ℕ → List ℕ → ℕ
-text_refusal key tape =
-    7 if not (tag_matches key (nonce_of (head_bytes tape)) (head_bytes tape) (sealed_bytes tape)) else
-    8 if is_refused (unpack_tickets (ticket_count tape) (plain_bytes key tape)) else
+-- the numbers that key and tape give by their lengths and the head
+unfoldable pub sealed_refusal : List ℕ → List ℕ → ℕ
+sealed_refusal key tape =
+    2 if not (eqb (length key) key_length && is_tape_length (length tape)) else
+    3 if is_refused (unpack_head (head_bytes tape)) else
     accepted
-
--- only the tag and the tickets can send the tape back
-abbrev pub OnlyText : List ℕ → List ℕ → List ℕ → Type 0
-OnlyText key tape out = open_tape_refusal key tape out ≡ text_refusal key tape

@@ -6,34 +6,35 @@ mod sized;
 
 ghost use Rattle.tape_opening.specs.Clauses.{OpensTape, OpensScratch};
 
-use opening::{open_by, open_refusal, open_text};
+use calls::Refusal;
+use opening::Sealed;
 use sized::open_long;
-use tape_model::{EMPTY_TAPE_LENGTH, OpenedTape};
+use tape_model::Totals;
 
 // Opens a tape: writes the plain bytes of its tickets, once the tag is known to match and every ticket has unpacked, and answers their
 // number and total net. The text is decrypted into a scratch on the stack, which is cleared where the tape is sent back.
-pub fn open_tape(key: &[u8], tape: &[u8], out: &mut [u8]) -> OpenedTape
+pub fn open_tape(key: &[u8], tape: &[u8], out: &mut [u8]) -> Result<Totals, Refusal>
     ensures { OpensTape key.now tape.now out.old result out.new }
 {
-    let number = open_refusal(key, tape, out);
-    if number != 0 {
-        return OpenedTape::Refused(number);
+    let sealed = Sealed::of(key, tape)?;
+    if out.len() < sealed.text_length() {
+        return Err(Refusal::OutputTooShort);
     }
-    if tape.len() <= 512 + EMPTY_TAPE_LENGTH {
+    if sealed.text_length() <= 512 {
         let mut scratch = [0; 512];
-        return open_by(&mut scratch, key, tape, out);
+        return sealed.open_by(&mut scratch, out);
     }
-    open_long(key, tape, out)
+    open_long(&sealed, out)
 }
 
 // Opens a tape into a buffer of the caller's that nobody else reads: the text stands there before the tag is known, and the buffer is all
 // zeros after 7 and 8. The other numbers change nothing.
-pub fn open_scratch(key: &[u8], tape: &[u8], scratch: &mut [u8]) -> OpenedTape
+pub fn open_scratch(key: &[u8], tape: &[u8], scratch: &mut [u8]) -> Result<Totals, Refusal>
     ensures { OpensScratch key.now tape.now scratch.old result scratch.new }
 {
-    let number = open_refusal(key, tape, scratch);
-    if number != 0 {
-        return OpenedTape::Refused(number);
+    let sealed = Sealed::of(key, tape)?;
+    if scratch.len() < sealed.text_length() {
+        return Err(Refusal::OutputTooShort);
     }
-    open_text(scratch, key, tape)
+    sealed.open_text(scratch)
 }

@@ -2,3 +2,4 @@
 pub mod Packed
 pub mod WriterCalls
 pub mod WriterBack
+pub mod Phases

@@ -4,7 +4,11 @@ use mathlib.Core.Bool.{true, false}
 use mathlib.Core.List.{List, []}
 use Prim.Native.Nat.{ℕ, zero, suc}
 use native.Mathlib.Omega.{arith}
+use Rattle.calls.specs.declared.Answer.{Answer}
 use Rattle.calls.specs.declared.Answer.TheVariants.{Refused, Done}
+use Rattle.calls.specs.declared.Refusal.{Refusal}
+use Rattle.calls.specs.declared.Refusal.TheVariants.{WrongPhase, WrongLength, HeadOutOfRange, TicketRule, OverLimit, OutputTooShort}
+use Rattle.calls.specs.Refusals.{refusal_number}
 use Rattle.calls.specs.Calls.{◌if◌else◌, Reply, refused, done, Work, left_unchanged, answer_reply, unless_refused, written_over, Outcome, refused_with}
 use Rattle.acorn_model.specs.Machine as machine
 use Rattle.acorn_model.specs.Machine.{Machine, begin, data_call, seal_text, seal_close, wrote, answered}
@@ -22,48 +26,44 @@ use Rattle.session.specs.Clauses.{machine_of, wrapped_machine, wrapped_reply, wr
 use Rattle.session.proofs.Wrapping.{wrapped-call}
 use Rattle.tape_writer.specs.declared.Writer.{Writer}
 use Rattle.tape_writer.specs.declared.WriterReply.{WriterReply}
-use Rattle.tape_writer.specs.Clauses.{writer_of, writer_outcome, wrapped_writer, wrapped_writer_outcome, WriterCalled, refused_reply, unless_begun, head_taken, Gives}
+use Rattle.tape_writer.specs.Clauses.{writer_of, writer_outcome, wrapped_writer, wrapped_writer_outcome, WriterCalled, refused_reply, unless_answer_refused, passed_reply, unless_begun, head_taken, Gives}
 
 -- ## By the number
 
 module _ (w : Writer) (c : WriterCall) where
   -- a refused call hands the writer on as it was
-  refuses : (n : ℕ) → refusal (writer_of w) c ≡ suc n → (r : WriterReply) → r ≡ refused_reply (suc n) w → WriterCalled w c r (output_of c)
+  refuses : (n : ℕ) → refusal (writer_of w) c ≡ suc n → (e : Refusal) → refusal_number e ≡ suc n → (r : WriterReply) → r ≡ refused_reply e w → WriterCalled w c r (output_of c)
   unfolding writer_outcome answer_reply writer_call unless_refused refused_with wrapped_writer_outcome wrapped_reply
-  refuses n e r is = ap (λ (x : WriterReply). writer_outcome x (output_of c)) is ∙ rw e
+  refuses n applies e number r is =
+      ap (λ (x : WriterReply). writer_outcome x (output_of c)) is ∙ ap (λ (k : ℕ). record { next = writer_of w; answer = refused k; out = output_of c }) number ∙ rw applies
 
   module _ (r : WriterReply) where
-    pub refused_1 : r ≡ refused_reply 1 w → phase_allows (writer_of w).phase c ≡ false → WriterCalled w c r (output_of c)
+    pub refused_1 : r ≡ refused_reply WrongPhase w → phase_allows (writer_of w).phase c ≡ false → WriterCalled w c r (output_of c)
     unfolding refusal
-    refused_1 is p = refuses 0 (rw p) r is
+    refused_1 is p = refuses 0 (rw p) WrongPhase refl r is
 
-    pub refused_2 : r ≡ refused_reply 2 w → phase_allows (writer_of w).phase c ≡ true → key_right c ≡ false → WriterCalled w c r (output_of c)
+    pub refused_2 : r ≡ refused_reply WrongLength w → phase_allows (writer_of w).phase c ≡ true → key_right c ≡ false → WriterCalled w c r (output_of c)
     unfolding refusal
-    refused_2 is p k = refuses 1 (rw (p, k)) r is
+    refused_2 is p k = refuses 1 (rw (p, k)) WrongLength refl r is
 
-    pub refused_3 : r ≡ refused_reply 3 w → phase_allows (writer_of w).phase c ≡ true → key_right c ≡ true → head_right c ≡ false → WriterCalled w c r (output_of c)
+    pub refused_3 : r ≡ refused_reply HeadOutOfRange w → phase_allows (writer_of w).phase c ≡ true → key_right c ≡ true → head_right c ≡ false → WriterCalled w c r (output_of c)
     unfolding refusal
-    refused_3 is p k h = refuses 2 (rw (p, k, h)) r is
+    refused_3 is p k h = refuses 2 (rw (p, k, h)) HeadOutOfRange refl r is
 
-    pub refused_4 : r ≡ refused_reply 4 w → phase_allows (writer_of w).phase c ≡ true → key_right c ≡ true → head_right c ≡ true → ticket_right c ≡ false
+    pub refused_4 : r ≡ refused_reply TicketRule w → phase_allows (writer_of w).phase c ≡ true → key_right c ≡ true → head_right c ≡ true → ticket_right c ≡ false
         → WriterCalled w c r (output_of c)
     unfolding refusal
-    refused_4 is p k h t = refuses 3 (rw (p, k, h, t)) r is
+    refused_4 is p k h t = refuses 3 (rw (p, k, h, t)) TicketRule refl r is
 
-    pub refused_5 : r ≡ refused_reply 5 w → phase_allows (writer_of w).phase c ≡ true → key_right c ≡ true → head_right c ≡ true → ticket_right c ≡ true
+    pub refused_5 : r ≡ refused_reply OverLimit w → phase_allows (writer_of w).phase c ≡ true → key_right c ≡ true → head_right c ≡ true → ticket_right c ≡ true
         → tape_full (writer_of w).tickets c ≡ true → WriterCalled w c r (output_of c)
     unfolding refusal
-    refused_5 is p k h t f = refuses 4 (rw (p, k, h, t, f)) r is
+    refused_5 is p k h t f = refuses 4 (rw (p, k, h, t, f)) OverLimit refl r is
 
-    pub refused_6 : r ≡ refused_reply 6 w → phase_allows (writer_of w).phase c ≡ true → key_right c ≡ true → head_right c ≡ true → ticket_right c ≡ true
+    pub refused_6 : r ≡ refused_reply OutputTooShort w → phase_allows (writer_of w).phase c ≡ true → key_right c ≡ true → head_right c ≡ true → ticket_right c ≡ true
         → tape_full (writer_of w).tickets c ≡ false → output_short c ≡ true → WriterCalled w c r (output_of c)
     unfolding refusal
-    refused_6 is p k h t f o = refuses 5 (rw (p, k, h, t, f, o)) r is
-
-    -- by a number that was asked for first
-    pub refused_number : (n : ℕ) → n ≡ refusal (writer_of w) c → (n ≡ 0 → ⊥) → r ≡ refused_reply n w → WriterCalled w c r (output_of c)
-    refused_number zero e h is = absurd (h refl)
-    refused_number (suc n) e h is = refuses n (sym e) r is
+    refused_6 is p k h t f o = refuses 5 (rw (p, k, h, t, f, o)) OutputTooShort refl r is
 
   -- an accepted call does its work
   pub accepts : WriterPassed (writer_of w) c → wrapped_writer_outcome (work (writer_of w) c) ≡ wrapped_writer_outcome (writer_call (writer_of w) c)
@@ -92,7 +92,7 @@ module _ (a : Reply Work) (go_on : Work → Outcome PlainWriter Work) (w : Plain
       by (done j) f g = g j f
 
 module _ (r : SessionReply) (o : Outcome Machine Work) (g : Gives r o) where
-  says_refused : (n : ℕ) → r.answer ≡ Refused n → wrapped_reply o.answer ≡ refused n
+  says_refused : (n : Refusal) → r.answer ≡ Refused n → wrapped_reply o.answer ≡ refused (refusal_number n)
   says_refused n d = sym g.0 ∙ (unfold answer_reply in ap answer_reply d)
 
   says-done : (n k : ℕ) → r.answer ≡ Done n k → wrapped_reply o.answer ≡ done (record { bytes = n; steps = k })
@@ -116,7 +116,7 @@ module _ (r : SessionReply) (after : List ℕ) (o : Outcome Machine Work) (e : s
   -- ## The session's call is the writer's
 
   module _ (w : Writer) (phase : WriterPhase) (tickets : ℕ) (out : List ℕ) where
-    pub passed : (n k : ℕ) → r.answer ≡ Done n k
+    passed : (n k : ℕ) → r.answer ≡ Done n k
         → writer_outcome (record { answer = r.answer; writer = record { session = r.session; tickets = tickets; phase = phase } }) after
         ≡ wrapped_writer_outcome (passed_on o phase tickets (writer_of w) out)
     unfolding writer_outcome writer_of passed_on wrapped_writer_outcome wrapped_writer
@@ -126,12 +126,12 @@ module _ (r : SessionReply) (after : List ℕ) (o : Outcome Machine Work) (e : s
         ∙ sym (answer-done o.answer _ (writer_of w) out _ f _
         (λ j g i. record { next = record { machine = wrapped_machine o.next; phase = phase; tickets = tickets }; answer = g i; out = o.out }))
 
-    stopped : (n : ℕ) → r.answer ≡ Refused n → o.out ≡ out
+    stopped : (n : Refusal) → r.answer ≡ Refused n → o.out ≡ out
         → writer_outcome (record { answer = r.answer; writer = w }) after ≡ wrapped_writer_outcome (passed_on o phase tickets (writer_of w) out)
     unfolding writer_outcome passed_on refused_with
     stopped n d kept =
         let f = says_refused r o gives n d in
-        (λ i. record { next = writer_of w; answer = (gives.0 ∙ f) i; out = (out_is ∙ kept) i }) ∙ sym (answer_refused o.answer _ (writer_of w) out n f)
+        (λ i. record { next = writer_of w; answer = (gives.0 ∙ f) i; out = (out_is ∙ kept) i }) ∙ sym (answer_refused o.answer _ (writer_of w) out (refusal_number n) f)
 
 -- a refused sealing call of the machine leaves its output as it was
 kept_out : (k : ℕ) (written out : List ℕ) (next m : Machine) (n : ℕ) → wrapped_reply (unless_refused k (wrote written next out) (refused_with k m out)).answer ≡ refused n
@@ -140,22 +140,43 @@ unfolding unless_refused wrote answered refused_with wrapped_reply
 kept_out zero written out next m n e = absurd (let z : ◌≡◌ {A = ℕ} 0 1 = cc in omega arith)
 kept_out (suc k) written out next m n e = refl
 
-module _ (w : Writer) (r : SessionReply) (out after : List ℕ) (phase : WriterPhase) (tickets n : ℕ) (d : r.answer ≡ Refused n) where
-  pub text_stopped : (piece : List ℕ) → Called w.session (seal_text piece out) r after
+module _ (w : Writer) (r : SessionReply) (out after : List ℕ) (phase : WriterPhase) (tickets : ℕ) (n : Refusal) (d : r.answer ≡ Refused n) where
+  text_stopped : (piece : List ℕ) → Called w.session (seal_text piece out) r after
       → writer_outcome (record { answer = r.answer; writer = w }) after
       ≡ wrapped_writer_outcome (passed_on (machine.call (machine_of w.session) (seal_text piece out)) phase tickets (writer_of w) out)
   text_stopped piece e =
       let o = machine.call (machine_of w.session) (seal_text piece out) in
       stopped r after o e w phase tickets out n d
-      (unfold machine.call machine.work machine.output_of in kept_out _ _ out _ _ n (says_refused r o (gives r after o e) n d))
+      (unfold machine.call machine.work machine.output_of in kept_out _ _ out _ _ (refusal_number n) (says_refused r o (gives r after o e) n d))
 
-  pub close_stopped : Called w.session (seal_close out) r after
+  close_stopped : Called w.session (seal_close out) r after
       → writer_outcome (record { answer = r.answer; writer = w }) after
       ≡ wrapped_writer_outcome (passed_on (machine.call (machine_of w.session) (seal_close out)) phase tickets (writer_of w) out)
   close_stopped e =
       let o = machine.call (machine_of w.session) (seal_close out) in
       stopped r after o e w phase tickets out n d
-      (unfold machine.call machine.work machine.output_of in kept_out _ _ out _ _ n (says_refused r o (gives r after o e) n d))
+      (unfold machine.call machine.work machine.output_of in kept_out _ _ out _ _ (refusal_number n) (says_refused r o (gives r after o e) n d))
+
+-- by either answer
+module _ (w : Writer) (r : SessionReply) (out after : List ℕ) (phase : WriterPhase) (tickets : ℕ) where
+  abbrev handed_on : Answer → WriterReply
+  handed_on a = record { answer = r.answer; writer = unless_answer_refused a w (record { session = r.session; tickets = tickets; phase = phase }) }
+
+  pub text_passed : (piece : List ℕ) → Called w.session (seal_text piece out) r after
+      → writer_outcome (passed_reply r tickets phase w) after ≡ wrapped_writer_outcome (passed_on (machine.call (machine_of w.session) (seal_text piece out)) phase tickets (writer_of w) out)
+  text_passed piece e = by r.answer refl
+    where
+      by : (a : Answer) → r.answer ≡ a → writer_outcome (handed_on a) after ≡ wrapped_writer_outcome (passed_on (machine.call (machine_of w.session) (seal_text piece out)) phase tickets (writer_of w) out)
+      by (Refused n) d = text_stopped w r out after phase tickets n d piece e
+      by (Done n k) d = passed r after _ e w phase tickets out n k d
+
+  pub close_passed : Called w.session (seal_close out) r after
+      → writer_outcome (passed_reply r tickets phase w) after ≡ wrapped_writer_outcome (passed_on (machine.call (machine_of w.session) (seal_close out)) phase tickets (writer_of w) out)
+  close_passed e = by r.answer refl
+    where
+      by : (a : Answer) → r.answer ≡ a → writer_outcome (handed_on a) after ≡ wrapped_writer_outcome (passed_on (machine.call (machine_of w.session) (seal_close out)) phase tickets (writer_of w) out)
+      by (Refused n) d = close_stopped w r out after phase tickets n d e
+      by (Done n k) d = passed r after _ e w phase tickets out n k d
 
 -- ## Begin, and then data with the head
 
@@ -167,11 +188,11 @@ module _ (s : Session) (key head : List ℕ) (r : SessionReply) (e : Called s (b
   taken = machine.call begun.next (data_call head)
 
   -- begin is refused
-  pub not-begun : (n : ℕ) → r.answer ≡ Refused n → Gives r (head_taken (machine_of s) key head)
+  pub not-begun : (n : Refusal) → r.answer ≡ Refused n → Gives r (head_taken (machine_of s) key head)
   unfolding head_taken wrapped_reply
   not-begun n d = subst (Gives r) (by begun.answer (says_refused r begun (gives r [] begun e) n d)) (gives r [] begun e)
     where
-      by : (a : Reply Work) → wrapped_reply a ≡ refused n → begun ≡ unless_begun a begun taken
+      by : (a : Reply Work) → wrapped_reply a ≡ refused (refusal_number n) → begun ≡ unless_begun a begun taken
       by (refused k) f = refl
       by (done k) f = absurd (let z : ◌≡◌ {A = ℕ} 0 1 = cc in omega arith)
 
@@ -238,12 +259,12 @@ module _ (w : PlainWriter) (head : Head) (out : List ℕ) (begun taken : Outcome
           })
 
 module _ (w : Writer) (key : List ℕ) (head : Head) (out : List ℕ) (r : SessionReply) (g : Gives r (head_taken (machine_of w.session) key (pack_head head))) where
-  pub not-started : (n : ℕ) → r.answer ≡ Refused n
+  pub not-started : (n : Refusal) → r.answer ≡ Refused n
       → writer_outcome (record { answer = r.answer; writer = w }) out ≡ wrapped_writer_outcome (work (writer_of w) (start key head out))
   unfolding writer_outcome work writer_of head_taken refused_with
   not-started n d =
       let f = says_refused r (head_taken (machine_of w.session) key (pack_head head)) g n d in
-      (λ i. record { next = writer_of w; answer = (g.0 ∙ f) i; out = out }) ∙ sym (start_refused (writer_of w) head out _ _ n f)
+      (λ i. record { next = writer_of w; answer = (g.0 ∙ f) i; out = out }) ∙ sym (start_refused (writer_of w) head out _ _ (refusal_number n) f)
 
   pub head_written : (n steps : ℕ) → r.answer ≡ Done n steps → (after : List ℕ) → after ≡ written_over (pack_head head) out
       → writer_outcome (record { answer = Done head_length steps; writer = record { session = r.session; tickets = w.tickets; phase = Open } }) after

@@ -1,8 +1,11 @@
 -- How a writer is held against document 01's plain writer: the one equation that every method's contract is.
 use Rattle.std.specs.Prelude.{◌≡◌, List, ℕ}
+use Rattle.calls.specs.declared.Answer.{Answer}
 use Rattle.calls.specs.declared.Answer.TheVariants.{Refused, Done}
+use Rattle.calls.specs.declared.Refusal.{Refusal}
 use Rattle.calls.specs.Calls.{◌if◌else◌, Reply, refused, done, Work, Outcome, answer_reply, is_refused}
 use Rattle.acorn_model.specs.Machine.{Machine, begin, data_call, call}
+use Rattle.tape_model.specs.declared.WriterPhase.{WriterPhase}
 use Rattle.tape_model.specs.Tape.{tape_tag_length, nonce_of}
 use Rattle.tape_model.specs.Writer.{PlainWriter, WriterCall, writer_call}
 use Rattle.session.specs.declared.Reply.{Reply as SessionReply}
@@ -34,9 +37,18 @@ WriterCalled w c r out = writer_outcome r out ≡ wrapped_writer_outcome (writer
 
 -- ## What the private functions cite
 
--- the reply with a refusal number
-abbrev pub refused_reply : ℕ → Writer → WriterReply
-refused_reply number w = record { answer = Refused number; writer = w }
+-- the reply with a refusal
+abbrev pub refused_reply : Refusal → Writer → WriterReply
+refused_reply refusal w = record { answer = Refused refusal; writer = w }
+
+-- by the session's answer: what stays where it is refused, or what comes after it
+abbrev pub unless_answer_refused : {A : Type 0} → Answer → A → A → A
+unless_answer_refused (Refused refusal) stays after = stays
+unless_answer_refused (Done bytes steps) stays after = after
+
+-- the session's reply r passed on: where it did its call, the writer w has the session after it, so many tickets and this phase
+abbrev pub passed_reply : SessionReply → ℕ → WriterPhase → Writer → WriterReply
+passed_reply r tickets phase w = record { answer = r.answer; writer = unless_answer_refused r.answer w (record { session = r.session; tickets = tickets; phase = phase }) }
 
 -- begin and then data with a head's bytes; begin alone where it is refused
 abbrev pub unless_begun : Reply Work → Outcome Machine Work → Outcome Machine Work → Outcome Machine Work

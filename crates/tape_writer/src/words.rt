@@ -1,4 +1,5 @@
-// A writer in twelve words, for callers that cannot hold the struct. Any twelve words are read as some writer.
+// A writer in twelve words, for callers that cannot hold the struct. Any twelve words are read as some writer. (Methods, and no From: neither way
+// keeps every bit.)
 ghost use Rattle.std.specs.Prelude.{◌≡◌};
 ghost use Rattle.tape_writer.specs.Clauses.{writer_of};
 ghost use Rattle.tape_writer.specs.Words.{phase_number, phase_in, writer_in, writer_words_for};
@@ -7,6 +8,7 @@ use super::Writer;
 use session::Session;
 use tape_model::{TAPE_TAG_LENGTH, WriterPhase};
 
+// (A match, and not `as`: the numbers that C holds are read here. And no TryFrom for the way back: every number is read as some phase, as `writer_in` says.)
 fn phase_number(phase: WriterPhase) -> u64
     ensures { result ≡ phase_number phase }
 {
@@ -20,17 +22,16 @@ fn phase_number(phase: WriterPhase) -> u64
 fn phase_in(n: u64) -> WriterPhase
     ensures { result ≡ phase_in n }
 {
-    if n == 0 {
-        return WriterPhase::Fresh;
+    match n {
+        0 => WriterPhase::Fresh,
+        1 => WriterPhase::Open,
+        _ => WriterPhase::Closed,
     }
-    if n == 1 {
-        return WriterPhase::Open;
-    }
-    WriterPhase::Closed
 }
 
 impl Writer {
-    // The writer that twelve words hold.
+    // The writer that twelve words hold. (The words are listed here and below: by `copy_from_slice` the calls for C on a writer take more of the stack than the
+    // header says.)
     pub fn from_words(words: &[u64; 12]) -> Writer
         ensures { result ≡ writer_in words.now }
     {
@@ -58,9 +59,7 @@ impl Writer {
     pub fn words(self) -> [u64; 12]
         ensures { result ≡ writer_words_for (writer_of self) }
     {
-        let session = self.session;
-        let phase = self.phase;
-        let s = session.words();
+        let s = self.session.words();
         [
             s[0],
             s[1],
@@ -73,7 +72,7 @@ impl Writer {
             s[8],
             s[9],
             self.tickets,
-            phase_number(phase),
+            phase_number(self.phase),
         ]
     }
 }

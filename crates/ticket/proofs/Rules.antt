@@ -5,6 +5,8 @@ use mathlib.Core.Bool.{Bool, true, false, ◌&&◌, and_assoc, and-true, and-fal
 use native.Mathlib.Omega.{arith}
 use borrow.Author.Tests.{leb-true, le-leb, lt-leb, eqb-true, eqb-false}
 use lib.Dec.{eqb, leb, leb-zero}
+use Rattle.std.specs.Ordering.{is_le, nat_cmp}
+use Rattle.std.proofs.lemmas.Bool.Decides.{nat_tests}
 use Rattle.calls.specs.Calls.{◌if◌else◌}
 use Rattle.tape_model.specs.declared.Ticket.{Ticket}
 use Rattle.tape_model.specs.Format.{in_ranges}
@@ -75,3 +77,10 @@ module _ (t : Ticket) where
   by-rest read form v same is range on_time rest =
       let known : between 1 t.form 2 ≡ true = ap (λ (n : ℕ). between 1 n 2) (ap (λ (u : Ticket). u.form) same ∙ is) ∙ range in
       rest ∙ sym (ap₂ (λ (a b : Bool). (a && b) && (place_rule t && load_rule t)) known (ap tipped_in_range same ∙ on_time)) ∙ in_parts
+
+-- `contains` of a range in order, as the specification has it
+in-order : (a b : ℕ) → is_le (nat_cmp a b) ≡ leb a b
+in-order a b = grind (arith, nat_tests)
+
+pub contains-is : (low v high : ℕ) → (is_le (nat_cmp low v) && is_le (nat_cmp v high)) ≡ between low v high
+contains-is low v high = ap₂ ◌&&◌ (in-order low v) (in-order v high)

@@ -1,9 +1,9 @@
 // Runs cases (h) to (l) on the code of tickets and heads, then further weights and totals of plain bytes, and prints what they give.
 #![tactic(auto)]
 
-use calls::Written;
-use std::io;
-use tape_model::{Head, Ticket, TicketTotals, UnpackedHead, UnpackedTicket};
+use calls::Refusal;
+use std::{fmt, io};
+use tape_model::{Head, Ticket, Totals};
 
 // Case (h)'s ticket with these times and weights.
 fn ticket_with(loaded: u32, tipped: u32, gross: u32, tare: u32) -> Ticket {
@@ -13,70 +13,78 @@ fn ticket_with(loaded: u32, tipped: u32, gross: u32, tare: u32) -> Ticket {
         shovel: 2,
         tip: 3,
         grade: 4,
-        loaded: loaded,
-        tipped: tipped,
-        gross: gross,
-        tare: tare,
+        loaded,
+        tipped,
+        gross,
+        tare,
     }
 }
 
-fn print_number(rt: &impl Print, n: u64) -> io::Result<()> {
-    print!(rt; " {n}")
-}
+// Bytes in hexadecimal, a space before each.
+#[derive(Clone, Copy)]
+struct Hex<'a>(&'a [u8]);
 
-fn print_byte(rt: &impl Print, b: u8) -> io::Result<()> {
-    print!(rt; " {b:02x}")
-}
-
-fn print_bytes(rt: &impl Print, s: &[u8]) -> io::Result<()> {
-    for b in s {
-        print_byte(rt, *b)?;
-    }
-    Ok(())
-}
-
-// The answer of a packing, and the output after it in hexadecimal.
-fn print_packed(rt: &impl Print, answer: Written, out: &[u8]) -> io::Result<()> {
-    match answer {
-        Written::Refused(n) => {
-            print!(rt; " refused")?;
-            print_number(rt, n as u64)?;
+impl fmt::Display for Hex<'_> {
+    fn fmt<W: fmt::Write>(&self, f: &mut fmt::Formatter<W>) -> fmt::Result {
+        for byte in self.0 {
+            write!(f, " {byte:02x}")?;
         }
-        Written::Done(n) => print_number(rt, n as u64)?,
+        Ok(())
     }
-    print!(rt; " bytes:")?;
-    print_bytes(rt, out)?;
-    println!(rt)
 }
 
-fn print_valid(rt: &impl Print, t: Ticket) -> io::Result<()> {
-    if ticket::valid(t) {
-        println!(rt; " valid")
+// What a call answered, with its values in this text, or its refusal.
+fn print_answer<T: fmt::Display + Drop>(
+    rt: &impl Print,
+    answer: Result<T, Refusal>,
+) -> io::Result<()> {
+    match answer {
+        Ok(values) => print!(rt; " {values}"),
+        Err(refusal) => print!(rt; " refused {refusal}"),
+    }
+}
+
+// The answer of a packing, and the output after it.
+fn print_packed(rt: &impl Print, answer: Result<usize, Refusal>, out: &[u8]) -> io::Result<()> {
+    print_answer(rt, answer)?;
+    println!(rt; " bytes:{}", Hex(out))
+}
+
+fn print_valid(rt: &impl Print, case: &str, t: Ticket) -> io::Result<()> {
+    let answer = if ticket::valid(t) {
+        "valid"
     } else {
-        println!(rt; " not valid")
+        "not valid"
+    };
+    println!(rt; "{case}: {answer}")
+}
+
+// A ticket's fields and its net.
+#[derive(Clone, Copy)]
+struct Fields(Ticket);
+
+impl fmt::Display for Fields {
+    fn fmt<W: fmt::Write>(&self, f: &mut fmt::Formatter<W>) -> fmt::Result {
+        let t = self.0;
+        write!(
+            f,
+            "{} {} {} {} {} {} {} {} {} net {}",
+            t.form,
+            t.truck,
+            t.shovel,
+            t.tip,
+            t.grade,
+            t.loaded,
+            t.tipped,
+            t.gross,
+            t.tare,
+            ticket::net(t)
+        )
     }
 }
 
-fn print_unpacked(rt: &impl Print, answer: UnpackedTicket) -> io::Result<()> {
-    match answer {
-        UnpackedTicket::Refused(n) => {
-            print!(rt; " refused")?;
-            print_number(rt, n as u64)?;
-        }
-        UnpackedTicket::Done(t) => {
-            print_number(rt, t.form as u64)?;
-            print_number(rt, t.truck as u64)?;
-            print_number(rt, t.shovel as u64)?;
-            print_number(rt, t.tip as u64)?;
-            print_number(rt, t.grade as u64)?;
-            print_number(rt, t.loaded as u64)?;
-            print_number(rt, t.tipped as u64)?;
-            print_number(rt, t.gross as u64)?;
-            print_number(rt, t.tare as u64)?;
-            print!(rt; " net")?;
-            print_number(rt, ticket::net(t) as u64)?;
-        }
-    }
+fn print_unpacked(rt: &impl Print, answer: Result<Ticket, Refusal>) -> io::Result<()> {
+    print_answer(rt, answer.map(Fields))?;
     println!(rt)
 }
 
@@ -92,61 +100,56 @@ fn print_ticket(rt: &impl Print, t: Ticket, out: &mut [u8]) -> io::Result<()> {
     print_unpacked(rt, ticket::unpack_ticket(out))
 }
 
-// A ticket packed by value.
-fn print_by_value(rt: &impl Print, packed: [u8; 13]) -> io::Result<()> {
-    print_bytes(rt, &packed)?;
+// The number of tickets and their net.
+#[derive(Clone, Copy)]
+struct Sums(Totals);
+
+impl fmt::Display for Sums {
+    fn fmt<W: fmt::Write>(&self, f: &mut fmt::Formatter<W>) -> fmt::Result {
+        write!(f, "{} net {}", self.0.tickets, self.0.net)
+    }
+}
+
+fn print_totals(rt: &impl Print, case: &str, plain: &[u8]) -> io::Result<()> {
+    print!(rt; "totals {case}:")?;
+    print_answer(rt, ticket::totals(plain).map(Sums))?;
     println!(rt)
 }
 
-fn print_totals(rt: &impl Print, answer: TicketTotals) -> io::Result<()> {
-    match answer {
-        TicketTotals::Refused(n) => {
-            print!(rt; " refused")?;
-            print_number(rt, n as u64)?;
-        }
-        TicketTotals::Done(tickets, net) => {
-            print_number(rt, tickets as u64)?;
-            print!(rt; " net")?;
-            print_number(rt, net)?;
-        }
-    }
-    println!(rt)
-}
+// A head's fields.
+#[derive(Clone, Copy)]
+struct HeadFields(Head);
 
-fn print_unpacked_head(rt: &impl Print, answer: UnpackedHead) -> io::Result<()> {
-    match answer {
-        UnpackedHead::Refused(n) => {
-            print!(rt; " refused")?;
-            print_number(rt, n as u64)?;
-        }
-        UnpackedHead::Done(h) => {
-            print_number(rt, h.device as u64)?;
-            print_number(rt, h.shift as u64)?;
-            print_number(rt, h.sheet as u64)?;
-        }
+impl fmt::Display for HeadFields {
+    fn fmt<W: fmt::Write>(&self, f: &mut fmt::Formatter<W>) -> fmt::Result {
+        write!(f, "{} {} {}", self.0.device, self.0.shift, self.0.sheet)
     }
-    println!(rt)
 }
 
 // A head packed, and its bytes unpacked again.
 fn print_head(rt: &impl Print, h: Head, out: &mut [u8]) -> io::Result<()> {
     print_packed(rt, ticket::pack_head(h, out), out)?;
     print!(rt; "unpacked:")?;
-    print_unpacked_head(rt, ticket::unpack_head(out))
+    print_answer(rt, ticket::unpack_head(out).map(HeadFields))?;
+    println!(rt)
 }
 
 // Tare equal to gross, and above it.
 fn print_weights(rt: &impl Print) -> io::Result<()> {
     let mut packed = [0u8; 13];
     let mut untouched = [0x5au8; 13];
-    print!(rt; "tare 250001:")?;
-    print_valid(rt, ticket_with(3600, 4200, 250000, 250001))?;
-    print!(rt; "gross 0, tare 0:")?;
-    print_valid(rt, ticket_with(3600, 4200, 0, 0))?;
-    print!(rt; "gross and tare 1048575:")?;
-    print_valid(rt, ticket_with(3600, 4200, 1048575, 1048575))?;
-    print!(rt; "gross 1048574, tare 1048575:")?;
-    print_valid(rt, ticket_with(3600, 4200, 1048574, 1048575))?;
+    print_valid(rt, "tare 250001", ticket_with(3600, 4200, 250000, 250001))?;
+    print_valid(rt, "gross 0, tare 0", ticket_with(3600, 4200, 0, 0))?;
+    print_valid(
+        rt,
+        "gross and tare 1048575",
+        ticket_with(3600, 4200, 1048575, 1048575),
+    )?;
+    print_valid(
+        rt,
+        "gross 1048574, tare 1048575",
+        ticket_with(3600, 4200, 1048574, 1048575),
+    )?;
     print!(rt; "(l)")?;
     print_ticket(rt, ticket_with(3600, 4200, 250000, 250000), &mut packed)?;
     print!(rt; "tare 6, gross 5:")?;
@@ -159,44 +162,42 @@ fn print_weights(rt: &impl Print) -> io::Result<()> {
 }
 
 fn print_by_value_and_totals(rt: &impl Print) -> io::Result<()> {
-    print!(rt; "(h) by value:")?;
-    print_by_value(rt, ticket::packed(ticket_with(3600, 4200, 250000, 110000)))?;
-    print!(rt; "(l) by value:")?;
-    print_by_value(rt, ticket::packed(ticket_with(3600, 4200, 250000, 250000)))?;
-    print!(rt; "tare 250001 by value:")?;
-    print_by_value(rt, ticket::packed(ticket_with(3600, 4200, 250000, 250001)))?;
-    print!(rt; "totals of (h) twice:")?;
-    print_totals(
-        rt,
-        ticket::totals(
-            b"\x10\x14\x20\xd0\x38\x40\x41\xa0\xf4\x24\x06\xb6\xc0\x10\x14\x20\xd0\x38\x40\x41\xa0\xf4\x24\x06\xb6\xc0",
-        ),
+    println!(rt;
+        "(h) by value:{}",
+        Hex(&ticket::packed(ticket_with(3600, 4200, 250000, 110000)))
     )?;
-    print!(rt; "totals of (h) and (l):")?;
-    print_totals(
-        rt,
-        ticket::totals(
-            b"\x10\x14\x20\xd0\x38\x40\x41\xa0\xf4\x24\x06\xb6\xc0\x10\x14\x20\xd0\x38\x40\x41\xa0\xf4\x24\x0f\x42\x40",
-        ),
+    println!(rt;
+        "(l) by value:{}",
+        Hex(&ticket::packed(ticket_with(3600, 4200, 250000, 250000)))
     )?;
-    print!(rt; "totals with tare 250001:")?;
-    print_totals(
-        rt,
-        ticket::totals(
-            b"\x10\x14\x20\xd0\x38\x40\x41\xa0\xf4\x24\x06\xb6\xc0\x10\x14\x20\xd0\x38\x40\x41\xa0\xf4\x24\x0f\x42\x44",
-        ),
+    println!(rt;
+        "tare 250001 by value:{}",
+        Hex(&ticket::packed(ticket_with(3600, 4200, 250000, 250001)))
     )?;
-    print!(rt; "totals with last byte C1:")?;
     print_totals(
         rt,
-        ticket::totals(
-            b"\x10\x14\x20\xd0\x38\x40\x41\xa0\xf4\x24\x06\xb6\xc0\x10\x14\x20\xd0\x38\x40\x41\xa0\xf4\x24\x06\xb6\xc1",
-        ),
+        "of (h) twice",
+        b"\x10\x14\x20\xd0\x38\x40\x41\xa0\xf4\x24\x06\xb6\xc0\x10\x14\x20\xd0\x38\x40\x41\xa0\xf4\x24\x06\xb6\xc0",
     )?;
-    print!(rt; "totals of 12 bytes:")?;
     print_totals(
         rt,
-        ticket::totals(b"\x10\x14\x20\xd0\x38\x40\x41\xa0\xf4\x24\x06\xb6"),
+        "of (h) and (l)",
+        b"\x10\x14\x20\xd0\x38\x40\x41\xa0\xf4\x24\x06\xb6\xc0\x10\x14\x20\xd0\x38\x40\x41\xa0\xf4\x24\x0f\x42\x40",
+    )?;
+    print_totals(
+        rt,
+        "with tare 250001",
+        b"\x10\x14\x20\xd0\x38\x40\x41\xa0\xf4\x24\x06\xb6\xc0\x10\x14\x20\xd0\x38\x40\x41\xa0\xf4\x24\x0f\x42\x44",
+    )?;
+    print_totals(
+        rt,
+        "with last byte C1",
+        b"\x10\x14\x20\xd0\x38\x40\x41\xa0\xf4\x24\x06\xb6\xc0\x10\x14\x20\xd0\x38\x40\x41\xa0\xf4\x24\x06\xb6\xc1",
+    )?;
+    print_totals(
+        rt,
+        "of 12 bytes",
+        b"\x10\x14\x20\xd0\x38\x40\x41\xa0\xf4\x24\x06\xb6",
     )
 }
 
@@ -217,14 +218,26 @@ fn main(rt: HostRuntime) -> io::Result<()> {
     )?;
     print!(rt; "(i)")?;
     print_head(&rt, head, &mut head_bytes)?;
-    print!(rt; "(j) tipped 43199:")?;
-    print_valid(&rt, ticket_with(3600, 43199, 250000, 110000))?;
-    print!(rt; "(j) tipped 43200:")?;
-    print_valid(&rt, ticket_with(3600, 43200, 250000, 110000))?;
-    print!(rt; "(k) loaded 4200:")?;
-    print_valid(&rt, ticket_with(4200, 4200, 250000, 110000))?;
-    print!(rt; "(l) tare 250000:")?;
-    print_valid(&rt, ticket_with(3600, 4200, 250000, 250000))?;
+    print_valid(
+        &rt,
+        "(j) tipped 43199",
+        ticket_with(3600, 43199, 250000, 110000),
+    )?;
+    print_valid(
+        &rt,
+        "(j) tipped 43200",
+        ticket_with(3600, 43200, 250000, 110000),
+    )?;
+    print_valid(
+        &rt,
+        "(k) loaded 4200",
+        ticket_with(4200, 4200, 250000, 110000),
+    )?;
+    print_valid(
+        &rt,
+        "(l) tare 250000",
+        ticket_with(3600, 4200, 250000, 250000),
+    )?;
     print_weights(&rt)?;
     print!(rt; "last byte C1:")?;
     print_unpacked(

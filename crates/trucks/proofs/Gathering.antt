@@ -7,15 +7,15 @@ use native.Mathlib.Omega.{arith}
 use lib.Dec.{eqb}
 use lib.ListN.{length, take, drop}
 use borrow.Author.Tests.{eqb-true}
+use Rattle.std.proofs.lemmas.Bool.{and_parts}
 use Rattle.calls.specs.Calls.{Reply, refused, done, map_reply, is_refused}
-use Rattle.calls.proofs.Choices.{neither}
 use Rattle.tape_model.specs.declared.Ticket.{Ticket}
 use Rattle.tape_model.specs.Ticket.{unpack_ticket}
 use Rattle.tape_model.specs.Tape.{is_tickets_length, unpack_tickets, plain_tickets, of_plain, tickets_in}
 use Rattle.tape_model.specs.Laws.{Valid}
 use Rattle.tape_model.proofs.Tickets.{truck_range, valid_truck}
 use Rattle.tape_model.proofs.Unpacking.{taken-apart, held-unpack}
-use Rattle.tape_model.proofs.Plain.{of_plain-laws, of_two_plain-laws}
+use Rattle.tape_model.proofs.Plain.{plain-laws, of_plain-laws, of_two_plain-laws}
 use Rattle.trucks.specs.Trucks.{NumberSet, truck_numbers, on, truck_count, TrucksOfTwo, trucks_of_two, truck_set, plain_truck_set, plain_trucks, plain_trucks_of_two}
 use Rattle.trucks.specs.Words.{held, set_words, AreWords, count, empty_set, intersection, union, symmetric_difference, set_or_empty}
 use Rattle.trucks.proofs.Counting.{added, told}
@@ -108,15 +108,16 @@ module _ (ts : List Ticket) (b : Trucks (truck_set ts)) where
 -- ## The answers of one tape
 
 module _ (plain : List ℕ) where
-  -- a number is that of the plain bytes
-  pub found_refused : (n : ℕ) → refused n ≡ plain_truck_set plain → (refused n ≡ plain_trucks plain) × (set_words empty_set ≡ set_words (set_or_empty (plain_truck_set plain)))
-  unfolding plain_truck_set plain_trucks
-  found_refused n e = (
-    sym (((of_plain-laws truck_count).number plain n).1 (((of_plain-laws truck_set).number plain n).0 (sym e))),
-    ap (λ (r : Reply NumberSet). set_words (set_or_empty r)) e,
-  )
+  -- the words of its set, or a number, where that is of the tape's set
+  pub words_refused : (n : ℕ) → refused n ≡ plain_truck_set plain → refused n ≡ map_reply set_words (plain_truck_set plain)
+  unfolding map_reply
+  words_refused n e = ap (map_reply set_words) e
 
-  -- or the set is that of their tickets' trucks
+  pub words-done : (words : List ℕ) → length words ≡ 16 → AreWords words → done (held words) ≡ plain_truck_set plain → done words ≡ map_reply set_words (plain_truck_set plain)
+  unfolding map_reply
+  words-done words sixteen small e = ap done (sym (words_back words sixteen small)) ∙ ap (map_reply set_words) e
+
+  -- a set of the tape's trucks is that of its tickets' trucks
   pub found-tickets : (s : NumberSet) → done s ≡ plain_truck_set plain → (ts : List Ticket) × (plain_tickets plain ≡ done ts) × (s ≡ truck_set ts)
   unfolding plain_truck_set of_plain map_reply
   found-tickets s e = by (plain_tickets plain) refl e
@@ -125,38 +126,49 @@ module _ (plain : List ℕ) where
       by (refused m) h f = absurd (let z : ◌≡◌ {A = ℕ} 0 1 = cc in omega arith)
       by (done ts) h f = (ts, h, let same : s ≡ truck_set ts = cc in same)
 
-  pub found-done : (words : List ℕ) → length words ≡ 16 → AreWords words → done (held words) ≡ plain_truck_set plain → (r : ℕ) → r ≡ count 1024 (held words)
-      → (done r ≡ plain_trucks plain) × (words ≡ set_words (set_or_empty (plain_truck_set plain)))
-  unfolding plain_trucks
-  found-done words sixteen small e r counted =
-      let p = found-tickets (held words) e in (
-        ap done (counted ∙ ap (count 1024) p.2 ∙ sym (count-by-set p.0 (held-trucks plain p.0 p.1)))
-            ∙ sym ((of_plain-laws truck_count).answered plain p.0 p.1),
-        sym (words_back words sixteen small) ∙ ap (λ (q : Reply NumberSet). set_words (set_or_empty q)) e,
-      )
+  -- what a number tells
+  module _ (n : ℕ) (answered : refused n ≡ map_reply set_words (plain_truck_set plain)) where
+    pub refused_told : plain_tickets plain ≡ refused n
+    unfolding plain_truck_set of_plain map_reply
+    refused_told = by (plain_tickets plain) answered
+      where
+        by : (r : Reply (List Ticket)) → refused n ≡ map_reply set_words (map_reply truck_set r) → r ≡ refused n
+        by (refused m) e = let same : n ≡ m = cc in ap refused (sym same)
+        by (done ts) e = absurd (let z : ◌≡◌ {A = ℕ} 0 1 = cc in omega arith)
 
-  -- what they tell: whether the tape is refused, and the set of its trucks
-  pub refused_told : (r : Reply ℕ) → r ≡ plain_trucks plain → is_refused r ≡ is_refused (plain_tickets plain)
-  unfolding plain_trucks of_plain map_reply
-  refused_told r e = ap is_refused e ∙ by (plain_tickets plain)
-    where
-      by : (q : Reply (List Ticket)) → is_refused (map_reply truck_count q) ≡ is_refused q
-      by (refused n) = refl
-      by (done ts) = refl
+    pub count_refused : refused n ≡ plain_trucks plain
+    unfolding plain_trucks
+    count_refused = sym (((of_plain-laws truck_count).number plain n).1 refused_told)
 
-  pub set_told : (words : List ℕ) → words ≡ set_words (set_or_empty (plain_truck_set plain)) → is_refused (plain_tickets plain) ≡ false
-      → (ts : List Ticket) × (plain_tickets plain ≡ done ts) × (held words ≡ truck_set ts)
-  unfolding plain_truck_set
-  set_told words e h = by (plain_tickets plain) refl h
-    where
-      by : (r : Reply (List Ticket)) → plain_tickets plain ≡ r → is_refused r ≡ false → (ts : List Ticket) × (plain_tickets plain ≡ done ts) × (held words ≡ truck_set ts)
-      by (refused n) f g = absurd (false≢true (sym g))
-      by (done ts) f g = (
-        ts,
-        f,
-        ap held (e ∙ ap (λ (q : Reply NumberSet). set_words (set_or_empty q)) ((of_plain-laws truck_set).answered plain ts f))
-            ∙ held-words (truck_set ts) (set_below ts (held-trucks plain ts f)),
-      )
+    pub set_refused : set_words empty_set ≡ set_words (set_or_empty (plain_truck_set plain))
+    unfolding plain_truck_set
+    set_refused = ap (λ (r : Reply NumberSet). set_words (set_or_empty r)) (sym (((of_plain-laws truck_set).number plain n).1 refused_told))
+
+  -- and words
+  module _ (words : List ℕ) (answered : done words ≡ map_reply set_words (plain_truck_set plain)) where
+    pub words_told : (ts : List Ticket) × (plain_tickets plain ≡ done ts) × (words ≡ set_words (truck_set ts))
+    unfolding plain_truck_set of_plain map_reply
+    words_told = by (plain_tickets plain) refl answered
+      where
+        by : (r : Reply (List Ticket)) → plain_tickets plain ≡ r → done words ≡ map_reply set_words (map_reply truck_set r)
+            → (ts : List Ticket) × (plain_tickets plain ≡ done ts) × (words ≡ set_words (truck_set ts))
+        by (refused n) e f = absurd (let z : ◌≡◌ {A = ℕ} 0 1 = cc in omega arith)
+        by (done ts) e f = (ts, e, let same : words ≡ set_words (truck_set ts) = cc in same)
+
+    pub set_told : (ts : List Ticket) × (plain_tickets plain ≡ done ts) × (held words ≡ truck_set ts)
+    set_told =
+        let p = words_told in
+        (p.0, p.1, ap held p.2 ∙ held-words (truck_set p.0) (set_below p.0 (held-trucks plain p.0 p.1)))
+
+    pub count_done : (r : ℕ) → r ≡ count 1024 (held words) → done r ≡ plain_trucks plain
+    unfolding plain_trucks
+    count_done r counted =
+        let p = set_told in
+        ap done (counted ∙ ap (count 1024) p.2 ∙ sym (count-by-set p.0 (held-trucks plain p.0 p.1))) ∙ sym ((of_plain-laws truck_count).answered plain p.0 p.1)
+
+    pub set_done : words ≡ set_words (set_or_empty (plain_truck_set plain))
+    unfolding plain_truck_set
+    set_done = let p = words_told in p.2 ∙ ap (λ (r : Reply NumberSet). set_words (set_or_empty r)) (sym ((of_plain-laws truck_set).answered plain p.0 p.1))
 
 -- ## The answers of two
 
@@ -165,26 +177,38 @@ module _ (first second : List ℕ) where
   unfolding plain_trucks_of_two
   lengths_told h = sym (((of_two_plain-laws trucks_of_two).two first second).1 h)
 
-  -- r and q: what was answered of each
-  module _ (r q : Reply ℕ) (r_is : r ≡ plain_trucks first) (q_is : q ≡ plain_trucks second) where
-    pub tickets-told : (is_tickets_length (length first) && is_tickets_length (length second)) ≡ true → (is_refused r || is_refused q) ≡ true
-        → refused 8 ≡ plain_trucks_of_two first second
+  -- both lengths are right, and the first tape is refused, or the second
+  module _ (right : (is_tickets_length (length first) && is_tickets_length (length second)) ≡ true) (n : ℕ) where
+    eight : n ≡ 8 → (is_refused (plain_tickets first) || is_refused (plain_tickets second)) ≡ true → refused n ≡ plain_trucks_of_two first second
     unfolding plain_trucks_of_two
-    tickets-told h e =
-        sym (((of_two_plain-laws trucks_of_two).eight first second).1 (h, sym (ap₂ (λ (a b : Bool). a || b) (refused_told first r r_is) (refused_told second q q_is)) ∙ e))
+    eight e h = ap refused e ∙ sym (((of_two_plain-laws trucks_of_two).eight first second).1 (right, h))
 
-    pub counts-told : (v w : List ℕ) → v ≡ set_words (set_or_empty (plain_truck_set first)) → w ≡ set_words (set_or_empty (plain_truck_set second))
-        → {a b c : ℕ} → (is_refused r || is_refused q) ≡ false
-        → (x : NumberSet) → x ≡ intersection (held v) (held w) → a ≡ count 1024 x → (y : NumberSet) → y ≡ union (held v) (held w) → b ≡ count 1024 y
-        → (z : NumberSet) → z ≡ symmetric_difference (held v) (held w) → c ≡ count 1024 z
-        → done (record { both = a; either = b; just_one = c }) ≡ plain_trucks_of_two first second
-    unfolding plain_trucks_of_two
-    counts-told v w v-is w-is h x ex ea y ey eb z ez ec =
-        let good = neither (is_refused r) (is_refused q) h in
-        let f = set_told first v v-is (sym (refused_told first r r_is) ∙ good.0) in
-        let g = set_told second w w-is (sym (refused_told second q q_is) ∙ good.1) in
-        ap done
-        (same-counts (ea ∙ ap (count 1024) (ex ∙ ap₂ intersection f.2 g.2)) (eb ∙ ap (count 1024) (ey ∙ ap₂ union f.2 g.2))
-        (ec ∙ ap (count 1024) (ez ∙ ap₂ symmetric_difference f.2 g.2))
-        ∙ sym (counts-by_sets f.0 (held-trucks first f.0 f.1) g.0 (held-trucks second g.0 g.1)))
-        ∙ sym ((of_two_plain-laws trucks_of_two).answered first second f.0 g.0 f.1 g.1)
+    pub first_told : refused n ≡ map_reply set_words (plain_truck_set first) → refused n ≡ plain_trucks_of_two first second
+    first_told e =
+        let t = refused_told first n e in
+        eight (plain-laws.no_other first n t (and_parts (is_tickets_length (length first)) _ right).0) (ap (λ (r : Reply (List Ticket)). is_refused r || is_refused (plain_tickets second)) t)
+
+    pub second_told : refused n ≡ map_reply set_words (plain_truck_set second) → refused n ≡ plain_trucks_of_two first second
+    second_told e =
+        let t = refused_told second n e in
+        eight (plain-laws.no_other second n t (and_parts (is_tickets_length (length first)) _ right).1)
+        (ap (λ (r : Reply (List Ticket)). is_refused (plain_tickets first) || is_refused r) t ∙ by (is_refused (plain_tickets first)))
+      where
+        by : (b : Bool) → (b || true) ≡ true
+        by true = refl
+        by false = refl
+
+  -- v and w: the words of the two tapes' sets
+  pub counts-told : (v w : List ℕ) → done v ≡ map_reply set_words (plain_truck_set first) → done w ≡ map_reply set_words (plain_truck_set second)
+      → {a b c : ℕ} → (x : NumberSet) → x ≡ intersection (held v) (held w) → a ≡ count 1024 x → (y : NumberSet) → y ≡ union (held v) (held w) → b ≡ count 1024 y
+      → (z : NumberSet) → z ≡ symmetric_difference (held v) (held w) → c ≡ count 1024 z
+      → done (record { both = a; either = b; just_one = c }) ≡ plain_trucks_of_two first second
+  unfolding plain_trucks_of_two
+  counts-told v w v-is w-is x ex ea y ey eb z ez ec =
+      let f = set_told first v v-is in
+      let g = set_told second w w-is in
+      ap done
+      (same-counts (ea ∙ ap (count 1024) (ex ∙ ap₂ intersection f.2 g.2)) (eb ∙ ap (count 1024) (ey ∙ ap₂ union f.2 g.2))
+      (ec ∙ ap (count 1024) (ez ∙ ap₂ symmetric_difference f.2 g.2))
+      ∙ sym (counts-by_sets f.0 (held-trucks first f.0 f.1) g.0 (held-trucks second g.0 g.1)))
+      ∙ sym ((of_two_plain-laws trucks_of_two).answered first second f.0 g.0 f.1 g.1)

@@ -9,7 +9,7 @@ use native.Mathlib.Decide.{dec_le}
 use lib.Arith.{lt-one}
 use lib.Pow.{pow-lt}
 use lib.Dec.{eqb, eqb-zero-suc, eqb-suc-zero, eqb-suc-suc}
-use lib.Bits.{bit_and, bit_or, bit_xor, or_lt}
+use lib.Bits.{bit_and, bit_or, bit_xor, or_lt, and_mask, xor_add_and}
 use lib.Count.{ones, ones_step}
 use lib.ListN.{length, get_or, set, replicate, get_or-eq_default}
 use lib.Seq.{get_or-set_same, get_or-set_other, ext_get_or}
@@ -17,43 +17,34 @@ use borrow.Author.Tests.{eq-eqb, ne_eqb, eqb-true, eqb-false}
 use Rattle.calls.specs.Calls.{◌if◌else◌}
 use Rattle.acorn_model.specs.Bits.{◌⊕◌, bit, number}
 use Rattle.acorn_model.proofs.Numbers.{bit-suc, number_of, number_same, number_bit, number_lt, bit-zero as bit_lowest}
-use Rattle.acorn_kernel.proofs.WordBits.{bit-and, bit-or, bit-xor, bit-zero}
-use Rattle.trucks.specs.declared.SetOperation.{SetOperation}
-use Rattle.trucks.specs.declared.SetOperation.TheVariants.{Intersection, Union, Difference, SymmetricDifference}
+use Rattle.acorn_kernel.proofs.WordBits.{bit-and, bit-or, bit-xor, bit-zero, bit-ones}
 use Rattle.trucks.specs.Trucks.{NumberSet}
-use Rattle.trucks.specs.Words.{held, set_bits, AreWords, words_of, set_words, count, empty_set, difference, symmetric_difference, combined}
+use Rattle.trucks.specs.Words.{held, set_bits, AreWords, words_of, set_words, count, empty_set}
 use Rattle.trucks.proofs.Counting.{added, told, count_same, count_front, count_sum}
 
 -- ## One word
 
-xor_is : (a b : Bool) → (a ⊕ b) ≡ (not b if a else b)
-xor_is true b = refl
-xor_is false b = refl
-
-bit_xor_is : (a b j : ℕ) → bit (bit_xor a b) j ≡ symmetric_difference (bit a) (bit b) j
-bit_xor_is a b j = bit-xor a b j ∙ xor_is (bit a j) (bit b j)
-
--- those of a that are not both in a and b
-bit_without : (a b j : ℕ) → bit (bit_xor a (bit_and a b)) j ≡ difference (bit a) (bit b) j
-bit_without a b j = bit_xor_is a (bit_and a b) j ∙ ap (λ (x : Bool). not x if bit a j else x) (bit-and a b j) ∙ by (bit a j) (bit b j)
+-- the bits of two words combined
+pub bit_xor_is : (a b j : ℕ) → bit (bit_xor a b) j ≡ (not (bit b j) if bit a j else bit b j)
+bit_xor_is a b j = bit-xor a b j ∙ by (bit a j) (bit b j)
   where
-    by : (x y : Bool) → (not (x && y) if x else x && y) ≡ (x && not y)
+    by : (x y : Bool) → (x ⊕ y) ≡ (not y if x else y)
     by true y = refl
     by false y = refl
 
--- two words combined
-module _ (operation : SetOperation) (a b : ℕ) where
-  pub word_and : operation ≡ Intersection → bit (bit_and a b) ≡ combined operation (bit a) (bit b)
-  word_and e = rw e (fun_ext (bit-and a b))
+-- `!b`
+not_is : (b : ℕ) → b < 2 ^ 64 → (2 ^ 64 - 1) - b ≡ bit_xor b (2 ^ 64 - 1)
+not_is b h = omega (arith, xor_add_and b (2 ^ 64 - 1), and_mask b 64, mod-eq_of_lt h)
 
-  pub word_or : operation ≡ Union → bit (bit_or a b) ≡ combined operation (bit a) (bit b)
-  word_or e = rw e (fun_ext (bit-or a b))
-
-  pub word_without : operation ≡ Difference → bit (bit_xor a (bit_and a b)) ≡ combined operation (bit a) (bit b)
-  word_without e = rw e (fun_ext (bit_without a b))
-
-  pub word_xor : operation ≡ SymmetricDifference → bit (bit_xor a b) ≡ combined operation (bit a) (bit b)
-  word_xor e = rw e (fun_ext (bit_xor_is a b))
+pub bit_without : (a b j : ℕ) → b < 2 ^ 64 → j < 64 → bit (bit_and a ((2 ^ 64 - 1) - b)) j ≡ (bit a j && not (bit b j))
+bit_without a b j h l =
+    bit-and a ((2 ^ 64 - 1) - b) j
+    ∙ ap (λ (x : Bool). bit a j && x)
+    (ap (λ (x : ℕ). bit x j) (not_is b h) ∙ bit_xor_is b (2 ^ 64 - 1) j ∙ ap (λ (x : Bool). not x if bit b j else x) (bit-ones 64 j l) ∙ by (bit b j))
+  where
+    by : (x : Bool) → (false if x else true) ≡ not x
+    by true = refl
+    by false = refl
 
 -- the one set bit of a power of 2
 pub bit_power : (n j : ℕ) → bit (2 ^ n) j ≡ eqb n j
@@ -103,14 +94,6 @@ in_word ws i j h =
     let q : (64 * i + j) / 64 ≡ i = omega arith in
     let r : (64 * i + j) % 64 ≡ j = omega arith in
     ap₂ (λ (x y : ℕ). bit (get_or ws x 0) y) q r
-
--- one word more is counted
-pub count_word : (ws : List ℕ) (i : ℕ) → count (64 * (i + 1)) (held ws) ≡ count (64 * i) (held ws) + count 64 (bit (get_or ws i 0))
-unfolding held
-count_word ws i =
-    let e : 64 * (i + 1) ≡ 64 * i + 64 = omega arith in
-    ap (λ (n : ℕ). count n (held ws)) e ∙ count_sum (64 * i) 64 (held ws)
-    ∙ ap (λ (n : ℕ). count (64 * i) (held ws) + n) (count_same 64 (λ k. held ws (64 * i + k)) (bit (get_or ws i 0)) (in_word ws i))
 
 -- the first word, and the words behind it
 held-here : (w : ℕ) (ws : List ℕ) (k : ℕ) → k < 64 → held (w ∷ ws) k ≡ bit w k
@@ -239,28 +222,12 @@ module _ (ws : List ℕ) (n : ℕ) (sixteen : length ws ≡ 16) (small : n < 102
   pub held-added : (k : ℕ) → held (set ws (n / 64) (bit_or (get_or ws (n / 64) 0) (2 ^ (n % 64)))) k ≡ added n (held ws) k
   held-added k = told (eqb (k / 64) (n / 64)) (λ e. in_its_word k (eqb-true (k / 64) (n / 64) e)) (λ e. in_another k (eqb-false (k / 64) (n / 64) e))
 
--- what is made of two bits
-abbrev taken : SetOperation → Bool → Bool → Bool
-taken operation a b = combined operation (λ k. a) (λ k. b) 0
-
-taken_at : (operation : SetOperation) (s t : NumberSet) (k : ℕ) → combined operation s t k ≡ taken operation (s k) (t k)
-taken_at Intersection s t k = refl
-taken_at Union s t k = refl
-taken_at Difference s t k = refl
-taken_at SymmetricDifference s t k = refl
-
-taken_none : (operation : SetOperation) → taken operation false false ≡ false
-taken_none Intersection = refl
-taken_none Union = refl
-taken_none Difference = refl
-taken_none SymmetricDifference = refl
-
--- two sets combined, word by word
-pub held-combined : (operation : SetOperation) (a b r : List ℕ) → length a ≡ 16 → length b ≡ 16 → length r ≡ 16
-    → ((q : ℕ) → q < 16 → bit (get_or r q 0) ≡ combined operation (bit (get_or a q 0)) (bit (get_or b q 0))) → (k : ℕ) → held r k ≡ combined operation (held a) (held b) k
+-- two sets made one, word by word: each bit of a word is made of the two bits at its place
+pub held-combined : (f : Bool → Bool → Bool) → f false false ≡ false → (a b r : List ℕ) → length a ≡ 16 → length b ≡ 16 → length r ≡ 16
+    → ((q : ℕ) → q < 16 → (j : ℕ) → j < 64 → bit (get_or r q 0) j ≡ f (bit (get_or a q 0) j) (bit (get_or b q 0) j)) → held r ≡ (λ k. f (held a k) (held b k))
 unfolding held
-held-combined operation a b r la lb lr e k = by (dec_le 16 (k / 64)) ∙ sym (taken_at operation (held a) (held b) k)
+held-combined f none a b r la lb lr e = fun_ext (λ k. by k (dec_le 16 (k / 64)))
   where
-    by : Dec (16 ≤ k / 64) → held r k ≡ taken operation (held a k) (held b k)
-    by (yes h) = held_past r k (omega arith) ∙ sym (ap₂ (taken operation) (held_past a k (omega arith)) (held_past b k (omega arith)) ∙ taken_none operation)
-    by (no h) = ap (λ (s : NumberSet). s (k % 64)) (e (k / 64) (omega arith)) ∙ taken_at operation (bit (get_or a (k / 64) 0)) (bit (get_or b (k / 64) 0)) (k % 64)
+    by : (k : ℕ) → Dec (16 ≤ k / 64) → held r k ≡ f (held a k) (held b k)
+    by k (yes h) = held_past r k (omega arith) ∙ sym (ap₂ f (held_past a k (omega arith)) (held_past b k (omega arith)) ∙ none)
+    by k (no h) = e (k / 64) (omega arith) (k % 64) (omega arith)

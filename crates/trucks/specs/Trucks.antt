@@ -3,6 +3,7 @@ use Rattle.std.specs.Prelude.{Bool, false, not, ◌||◌, List, [], ◌∷◌, �
 use Rattle.calls.specs.Calls.{◌if◌else◌, Reply}
 use Rattle.tape_model.specs.declared.Ticket.{Ticket}
 use Rattle.tape_model.specs.Tape.{of_plain, of_two_plain}
+pub use Rattle.trucks.specs.declared.TrucksOfTwo.{TrucksOfTwo}
 
 -- a set of numbers: whether each is in it
 abbrev pub NumberSet : Type 0
@@ -52,12 +53,7 @@ on_either l m = different (l ++ m)
 unfoldable pub on_just_one : List ℕ → List ℕ → List ℕ
 on_just_one l m = different (except (on m) l ++ except (on l) m)
 
--- how many
-pub record TrucksOfTwo : Type 0 where
-  pub both : ℕ
-  pub either : ℕ
-  pub just_one : ℕ
-
+-- how many there are of each
 unfoldable pub trucks_of_two : List Ticket → List Ticket → TrucksOfTwo
 trucks_of_two first second =
     record {

@@ -1,15 +1,12 @@
 -- What the code's words and answers stand for.
-use Rattle.std.specs.Prelude.{Bool, false, not, ◌&&◌, ◌||◌, List, [], ◌∷◌, ℕ, zero, suc, ◌+◌, ◌/◌, ◌%◌, ◌^◌, ◌<◌, get_or}
+use Rattle.std.specs.Prelude.{Result, Ok, Err, Bool, false, not, ◌&&◌, ◌||◌, List, [], ◌∷◌, ℕ, zero, suc, ◌+◌, ◌/◌, ◌%◌, ◌^◌, ◌<◌, get_or}
 use Rattle.std.specs.Int.Count.{ones}
+use Rattle.calls.specs.declared.Refusal.{Refusal}
+use Rattle.calls.specs.Refusals.{refusal_number}
 use Rattle.calls.specs.Calls.{◌if◌else◌, Reply, refused, done}
 use Rattle.acorn_model.specs.Bits.{bit, number}
-use Rattle.trucks.specs.declared.SetOperation.{SetOperation}
-use Rattle.trucks.specs.declared.SetOperation.TheVariants.{Intersection, Union, Difference, SymmetricDifference}
-use Rattle.trucks.specs.declared.TruckCount.{TruckCount}
-use Rattle.trucks.specs.declared.TruckCount.TheVariants.{Refused as NoCount, Done as CountDone}
-use Rattle.trucks.specs.declared.TruckCounts.{TruckCounts}
-use Rattle.trucks.specs.declared.TruckCounts.TheVariants.{Refused as NoCounts, Done as CountsDone}
-use Rattle.trucks.specs.Trucks.{NumberSet, TrucksOfTwo}
+use Rattle.trucks.specs.declared.TruckSet.{TruckSet}
+use Rattle.trucks.specs.Trucks.{NumberSet}
 
 -- ## One bit for each number
 
@@ -60,21 +57,11 @@ difference s t k = s k && not (t k)
 abbrev pub symmetric_difference : NumberSet → NumberSet → NumberSet
 symmetric_difference s t k = not (t k) if s k else t k
 
-abbrev pub combined : SetOperation → NumberSet → NumberSet → NumberSet
-combined Intersection = intersection
-combined Union = union
-combined Difference = difference
-combined SymmetricDifference = symmetric_difference
+-- ## Document 02's number, or the words, for each of the answers in code
 
--- ## Document 02's number and values for each of the answers in code
-
-unfoldable pub count_reply : TruckCount → Reply ℕ
-count_reply (NoCount n) = refused n
-count_reply (CountDone n) = done n
-
-unfoldable pub counts_reply : TruckCounts → Reply TrucksOfTwo
-counts_reply (NoCounts n) = refused n
-counts_reply (CountsDone both either just_one) = done (record { both = both; either = either; just_one = just_one })
+unfoldable pub words_reply : Result TruckSet Refusal → Reply (List ℕ)
+words_reply (Err r) = refused (refusal_number r)
+words_reply (Ok set) = done set.words
 
 -- the set that is handed back with an answer: empty where that is a refusal
 abbrev pub set_or_empty : Reply NumberSet → NumberSet

@@ -1,34 +1,26 @@
--- `acorn::end_text` meets its contract. The invariant: n steps of the end, a multiple of 32, are run.
-use mathlib.Core.Path.{◌∙◌}
+-- `acorn::end_text` meets its contract.
+use mathlib.Core.Path.{◌≡◌, sym, ap, ◌∙◌}
 use mathlib.Core.Bool.{false}
+use Prim.Native.Nat.{ℕ, ◌+◌, ◌-◌}
 use native.Mathlib.Omega.{arith}
+use borrow.Author.Rules.{rules}
+use lib.Dec.{eqb}
+use Rattle.acorn_model.specs.Bits.{bit}
 use Rattle.acorn_model.specs.Stretches.{text_end}
-use Rattle.acorn_kernel.specs.Together.{state_of}
-use Rattle.acorn.specs.Table.{first_step, row_of}
+use Rattle.acorn.specs.Table.{first_step, row_of, ca_at, cb_at}
 use Rattle.acorn.specs.declared.stretch.StretchName.TheVariants.{TextEnd}
 use Rattle.acorn.proofs.StretchRuns.{state_none, state_all}
 use Rattle.acorn.proofs.ControlTable.{steps_of, ca_of_row, cb_of_row}
-use Rattle.acorn.proofs.FixedRuns.{end_more}
+use Rattle.acorn.proofs.FixedRuns.{end_takes}
 use Rattle.acorn.proofs.end_text.Goals as goal
 
-pub loop-n-init : goal.loop-n-init
-loop-n-init c = (omega arith, omega arith, state_none _ _)
-
-pub loop-n-preserved : goal.loop-n-preserved
-unfolding first_step row_of steps_of
-loop-n-preserved c =
-    let v = c.loop-n in
-    let S = state_of c.args.s in
-    let word = c.leading_one-x in
-    let controls = c.controls_at-c in
-    let run = c.together_word-m in (
-      omega arith,
-      omega arith,
-      end_more false S (state_of v.t) (state_of run.result.state) v.n word.result run.result.ks controls.result.ca controls.result.cb (omega arith) v.invariant.1
-          (controls.ensures.ca_is ∙ ca_of_row v.n TextEnd (omega arith)) (controls.ensures.cb_is ∙ cb_of_row v.n TextEnd (omega arith)) v.invariant.2 word.ensures run.ensures,
-    )
-
 pub returns : goal.returns
+unfolding first_step row_of steps_of
 returns c =
-    let v = c.loop-n in
-    state_all text_end (state_of c.args.s) (state_of v.t) v.n (omega arith) v.invariant.2
+    state_all text_end _ _ 256 (omega arith)
+    (c.run_steps.ensures text_end 0 _
+    (λ n x l h d p.
+    let step : 1050624 + (n - 1050624) ≡ n = omega arith in
+    let one : (i : ℕ) → bit x i ≡ eqb (n - 1050624 + i) 0 = search rules in
+    end_takes false n (n - 1050624) x (omega arith) d (ap ca_at (sym step) ∙ ca_of_row (n - 1050624) TextEnd (omega arith)) (ap cb_at (sym step) ∙ cb_of_row (n - 1050624) TextEnd (omega arith)) one)
+    (state_none _ _))

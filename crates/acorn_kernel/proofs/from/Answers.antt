@@ -4,9 +4,6 @@ use native.Mathlib.Omega.{arith}
 use Rattle.acorn_kernel.proofs.StateWords.{from_place, at0, at1, at2, at3, at4, at5, end0, end1, end2, end3, end4, end5}
 use Rattle.acorn_kernel.proofs.from.Goals as goal
 
-pub overflow_shr-result-in_default : goal.overflow_shr-result-in_default
-overflow_shr-result-in_default c = omega (arith, end5 c.args.p (omega arith))
-
 pub returns-in-0-to-60 : goal.returns-in-0-to-60
 returns-in-0-to-60 c =
     let a = c.args in

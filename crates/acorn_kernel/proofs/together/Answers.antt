@@ -8,7 +8,7 @@ use Rattle.acorn_kernel.proofs.together.Goals as goal
 pub returns : goal.returns
 returns c =
     let a = c.args in
-    together_steps a.s a.x a.opening a.ca a.cb a.k c.requires.1 c.keystream_word-z.result c.feedback_word-f.result c.mask.result
+    together_steps a.s a.x a.opening a.controls.ca a.controls.cb a.k c.requires.1 c.keystream_word-z.result c.feedback_word-f.result c.mask.result
     c.keystream_word-z.ensures c.feedback_word-f.ensures c.mask.ensures _
     c.updated.result c.updated-2.result c.updated-3.result c.updated-4.result c.updated-5.result _
     c.updated.ensures c.shifted.ensures c.updated-2.ensures c.shifted-2.ensures c.updated-3.ensures c.shifted-3.ensures c.updated-4.ensures c.shifted-4.ensures

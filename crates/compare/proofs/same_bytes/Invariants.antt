@@ -1,14 +1,11 @@
-use mathlib.Core.Path.{◌≡◌}
+use Rattle.std.proofs.Common.{◌≡◌, nat_eq, length}
 use mathlib.Core.Bool.{◌&&◌}
-use Prim.Native.Nat.{◌-◌, ◌≤◌}
-use lib.Dec.{eqb}
-use lib.ListN.{length, drop}
 use Rattle.calls.specs.Calls.{same_bytes}
 use Rattle.compare.proofs.same_bytes.Given as goal
 
-abbrev pub invariant-loop-i : goal.invariant-loop-i
-invariant-loop-i l =
-    (length l.a ≡ length l.b) × (l.i ≤ length l.a) × ((eqb l.difference 0 && same_bytes (drop l.i l.a) (drop l.i l.b)) ≡ same_bytes l.a l.b)
-
-abbrev pub decreases-loop-i : goal.decreases-loop-i
-decreases-loop-i l = length l.a - l.i
+-- what is gathered, and the bytes still to come, tell what the strings do
+abbrev pub invariant-loop-x : goal.invariant-loop-x
+invariant-loop-x l =
+    let a = l.x-iterator.a.rest.now in
+    let b = l.x-iterator.b.rest.now in
+    record { lengths : length a ≡ length b; told : (nat_eq l.difference 0 && same_bytes a b) ≡ same_bytes l.a l.b }

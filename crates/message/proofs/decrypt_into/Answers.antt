@@ -11,16 +11,16 @@ use Rattle.acorn_model.specs.Machine.{key_length, nonce_length}
 use Rattle.acorn_model.specs.Stretches.{full_tag_length}
 use Rattle.message.proofs.Decrypting.{not-decrypted, decrypted_right, decrypted_wrong}
 use Rattle.message.proofs.decrypt_into.Goals as goal
+use Rattle.message.proofs.decrypt_into.Goals.{then-not-sizes_right-via-then-not-sizes_right, then-not-sizes_right-via-else-not-sizes_right+then-sealed-lt-TAG_LENGTH}
 
 pub returns-then-not-sizes_right : goal.returns-then-not-sizes_right
 returns-then-not-sizes_right c =
     let a = c.args in
-    not-decrypted a.key.now a.nonce.now a.«data».now a.sealed.now a.buffer.now (rw (sym c.sizes_right.ensures ∙ c.if-not-sizes_right.true))
-
-pub returns-then-sealed-lt-TAG_LENGTH : goal.returns-then-sealed-lt-TAG_LENGTH
-returns-then-sealed-lt-TAG_LENGTH c =
-    let a = c.args in
-    not-decrypted a.key.now a.nonce.now a.«data».now a.sealed.now a.buffer.now (rw ((sym c.sizes_right.ensures ∙ c.if-not-sizes_right.false), lt-leb _ _ c.if-sealed-lt-TAG_LENGTH.true))
+    elim c.then-not-sizes_right.branch [
+      | then-not-sizes_right-via-then-not-sizes_right w ↦ not-decrypted a.key.now a.nonce.now a.«data».now a.sealed.now a.buffer.now (rw (sym c.sizes_right.ensures ∙ w.if-not-sizes_right.true))
+      | then-not-sizes_right-via-else-not-sizes_right+then-sealed-lt-TAG_LENGTH w ↦
+          not-decrypted a.key.now a.nonce.now a.«data».now a.sealed.now a.buffer.now (rw ((sym c.sizes_right.ensures ∙ w.if-not-sizes_right.false), lt-leb _ _ w.if-sealed-lt-TAG_LENGTH.true))
+    ]
 
 pub returns-then-buffer-n : goal.returns-then-buffer-n
 returns-then-buffer-n c =

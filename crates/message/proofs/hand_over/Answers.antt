@@ -14,6 +14,3 @@ returns-then-good c =
       out_after = ap₂ (λ (l : List ℕ) (k : ℕ). l ++ drop k c.args.out.now) c.copy_from_slice.ensures.after (sym (length-take-le c.args.n c.args.scratch.now c.requires.0));
       scratch_after = refl;
     })
-
-pub returns-else-good : goal.returns-else-good
-returns-else-good c = rw c.if-good.false (record { out_after = refl; scratch_after = c.zeroize.ensures })

@@ -1,4 +1,4 @@
-use Prim.Native.Nat.{suc, ◌-◌, ◌≤◌}
+use Prim.Native.Nat.{suc, ◌≤◌}
 use lib.ListN.{length, drop}
 use Rattle.pairing.specs.Clauses.{unpaired}
 use Rattle.pairing.proofs.Filling.{Filled}
@@ -6,7 +6,4 @@ use Rattle.pairing.proofs.put_left.Given as goal
 
 abbrev pub invariant-loop-i : goal.invariant-loop-i
 invariant-loop-i l =
-    (l.i ≤ length l.partners) × (length l.partners ≤ 5000) × Filled l.initial.out (unpaired 1 l.partners) l.out l.n (unpaired (suc l.i) (drop l.i l.partners))
-
-abbrev pub decreases-loop-i : goal.decreases-loop-i
-decreases-loop-i l = length l.partners - l.i
+    (length l.partners ≤ 5000) × Filled l.initial.out (unpaired 1 l.partners) l.out l.n (unpaired (suc l.i) (drop l.i l.partners))

@@ -1,32 +1,21 @@
--- `rank_of`: of the first d contractors those that come before c are counted before each turn of the loop.
-use mathlib.Core.Path.{ap, ◌∙◌}
-use Prim.Native.Nat.{ℕ}
-use native.Mathlib.Omega.{arith}
-use borrow.Author.Rules.{rules}
+-- `rank_of`: those that the filter keeps are counted.
+use Rattle.std.proofs.Common.{rules, tests, ◌||◌, ◌&&◌, ltb, eqb, ap, ◌∙◌, arith, length}
+use Prim.Native.Nat.{ℕ, ◌+◌}
+use Rattle.std.proofs.lemmas.Iterator.{YieldsList-from_slice}
+use Rattle.std.proofs.lemmas.Iterator.Consumers.{YieldsList-at, YieldsList-from_enumerate, YieldsList-from_filter, count_from_yields_List}
 use Rattle.trucks.specs.Words.{count}
 use Rattle.pay_sheet.specs.PaySheet.{comes_before, rank}
 use Rattle.pay_sheet.specs.Clauses.{at}
-use Rattle.pay_sheet.proofs.Sums.{count_more, count-on}
+use Rattle.pay_sheet.proofs.Counted.{counted}
 use Rattle.pay_sheet.proofs.rank_of.Goals as goal
-use Rattle.pay_sheet.proofs.rank_of.Goals.{then-own-rests, else-own-rests}
-
-pub loop-d-init : goal.loop-d-init
-unfolding count
-loop-d-init c = search rules
-
-pub loop-d-preserved : goal.loop-d-preserved
-unfolding comes_before
-loop-d-preserved c = (
-  (omega arith, c.loop-d.invariant.0.1),
-  (
-    elim c.if-own-rests.branch [ then-own-rests w ↦ omega arith | else-own-rests w ↦ omega arith ],
-    elim c.if-own-rests.branch [
-      | then-own-rests w ↦ count_more _ _ _ _ c.loop-d.invariant.1.1 w.if-own-rests.true w.n-is
-      | else-own-rests w ↦ count-on _ _ _ _ c.loop-d.invariant.1.1 w.if-own-rests.false w.n-is
-    ],
-  ),
-)
 
 pub returns : goal.returns
-unfolding rank
-returns c = c.loop-d.invariant.1.1 ∙ ap (λ (k : ℕ). count k (λ e. comes_before (at c.args.rests) e c.args.c)) (omega arith)
+unfolding comes_before rank
+returns c =
+    let rests = c.args.rests.now in
+    let kept = count_from_yields_List _ _ c.count.ensures.ran (YieldsList-from_filter _ (λ (p : ℕ × ℕ). ltb (at c.args.rests.now c.args.c) p.1 || (eqb p.1 (at c.args.rests.now c.args.c) && ltb p.0 c.args.c))
+    (YieldsList-at c.filter.ensures.source (YieldsList-from_enumerate (YieldsList-at c.enumerate.ensures.source (YieldsList-from_slice rests cc)) c.enumerate.ensures.count))
+    c.filter.ensures.closure (λ x r q k. search (rules, tests))) in
+    kept
+    ∙ counted _ 0 rests (λ d. comes_before (at rests) d c.args.c) (λ d h. ap (λ (j : ℕ). ltb (at rests c.args.c) (at rests d) || (eqb (at rests d) (at rests c.args.c) && ltb j c.args.c)) {x = d} {y = 0 + d} (omega arith))
+    ∙ ap (λ (n : ℕ). count n (λ d. comes_before (at rests) d c.args.c)) {x = length rests} {y = 16} (omega arith)

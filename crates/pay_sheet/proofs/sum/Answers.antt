@@ -1,24 +1,14 @@
--- `sum`: the first i numbers are summed before each turn of the loop.
-use mathlib.Core.Path.{ap, ◌∙◌}
-use Prim.Native.Nat.{ℕ}
-use native.Mathlib.Omega.{arith}
-use native.Mathlib.Numerals.{add-one}
-use borrow.Author.Rules.{rules}
-use Rattle.pay_sheet.specs.PaySheet.{contractors, sum_to}
-use Rattle.pay_sheet.specs.Clauses.{at}
-use Rattle.pay_sheet.proofs.Sums.{sum_prefix}
+-- `sum`: of the array's numbers as a list.
+use Rattle.std.proofs.Common.{rules, arith, ◌≡◌, ◌<◌, ◌^◌, sum, sym, ◌∙◌}
+use Rattle.pay_sheet.proofs.Filled.{sum_to-sum}
 use Rattle.pay_sheet.proofs.sum.Goals as goal
 
-pub loop-i-init : goal.loop-i-init
-unfolding sum_to
-loop-i-init c = search rules
-
-pub overflow_add-n : goal.overflow_add-n
-overflow_add-n c = omega (arith, sum_prefix contractors (at c.args.ns) c.loop-i.i (omega arith))
-
-pub loop-i-preserved : goal.loop-i-preserved
-unfolding sum_to
-loop-i-preserved c = (search rules, simp add-one (omega arith))
+pub sum-requires-clause-fits : goal.sum-requires-clause-fits
+sum-requires-clause-fits c =
+    let fits : sum c.args.ns < 2 ^ 64 = omega (arith, c.requires, sum_to-sum c.args.ns 16 (omega arith)) in
+    search rules
 
 pub returns : goal.returns
-returns c = c.loop-i.invariant.1 ∙ ap (λ (k : ℕ). sum_to k (at c.args.ns)) (omega arith)
+returns c =
+    let e : c.sum.result ≡ sum c.args.ns = search rules in
+    e ∙ sym (sum_to-sum c.args.ns 16 (omega arith))

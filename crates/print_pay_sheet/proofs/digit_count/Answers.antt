@@ -1,18 +1,15 @@
--- `digit_count`: the digits passed and those that are left are all.
-use mathlib.Core.Path.{sym, ◌∙◌}
-use native.Mathlib.Omega.{arith}
-use borrow.Author.Rules.{rules}
-use Rattle.print_pay_sheet.proofs.Rates.{count_more, count_stops, count_ends}
+-- `digit_count`: the digits that the input begins with are counted.
+use Rattle.std.proofs.Common.{rules, tests, ◌∙◌}
+use Rattle.std.specs.Char.{is_ascii_digit}
+use Rattle.std.proofs.lemmas.Iterator.{YieldsList-from_slice}
+use Rattle.std.proofs.lemmas.Iterator.Consumers.{YieldsList-at, count_from_yields_List}
+use Rattle.std.proofs.lemmas.Iterator.Search.{YieldsList-from_take_while}
+use Rattle.std.proofs.lemmas.List.Folds.{length-prefix_len}
+use Rattle.print_pay_sheet.proofs.Rates.{counted}
 use Rattle.print_pay_sheet.proofs.digit_count.Goals as goal
 
-pub returns-then-not-is_digit : goal.returns-then-not-is_digit
-returns-then-not-is_digit c =
-    omega (arith, count_stops c.args.input.now c.loop-n.n (omega arith) (sym c.is_digit.ensures ∙ c.if-not-is_digit.true))
-
-pub loop-n-preserved : goal.loop-n-preserved
-loop-n-preserved c =
-    let e = count_more c.args.input.now c.loop-n.n (omega arith) (sym c.is_digit.ensures ∙ c.if-not-is_digit.false) in
-    search rules
-
 pub returns : goal.returns
-returns c = omega (arith, count_ends c.args.input.now c.loop-n.n (omega arith))
+returns c =
+    count_from_yields_List _ _ c.count.ensures.ran
+    (YieldsList-from_take_while _ is_ascii_digit (YieldsList-at c.take_while.ensures.source (YieldsList-from_slice c.args.input.now cc)) c.take_while.ensures.closure c.take_while.ensures.done (λ x r q k. search (rules, tests)))
+    ∙ length-prefix_len is_ascii_digit c.args.input.now ∙ counted c.args.input.now

@@ -1,22 +1,26 @@
--- `equal_groups` meets its contract.
-use mathlib.Core.Path.{sym, ◌∙◌}
-use Prim.Native.Nat.{◌+◌}
-use native.Mathlib.Omega.{arith}
+-- `equal_groups` meets its contract. Invariant: before the groups that are left, both have the same bytes.
+use mathlib.Core.Path.{◌≡◌, sym, subst, ◌∙◌}
+use Prim.Native.Nat.{ℕ, ◌+◌}
+use lib.ListN.{length}
+use Rattle.std.specs.Slice.Iter.{chunks_exact_rest}
 use Rattle.calls.proofs.SameBytes.{same-bytes-true}
-use Rattle.receptions.proofs.Places.{agree_further}
+use Rattle.receptions.proofs.Places.{SameBefore, same_more, agree}
 use Rattle.receptions.proofs.equal_groups.Goals as goal
 
-pub loop-i-init : goal.loop-i-init
-loop-i-init c = (omega arith, λ k l. absurd (omega arith))
+pub loop-a-preserved : goal.loop-a-preserved
+loop-a-preserved c =
+    let x = c.args in
+    let l = c.loop-a in
+    let step = c.in-Some.ensures.steps in
+    let eight : length c.in-Some.a.now ≡ 8 = step.0.1.1 ∙ l.invariant.0.0 in
+    let same = same-bytes-true _ _ (sym c.same_bytes.ensures ∙ c.if-not-same_bytes.false) in (
+      (step.0.0 ∙ l.invariant.0.0, step.1.0 ∙ l.invariant.0.1),
+      subst (λ (k : ℕ). SameBefore x.n (l.agreed + k) x.first.now x.second.now (chunks_exact_rest c.next.new.self.a) (chunks_exact_rest c.next.new.self.b)) eight
+          (same_more l.invariant.1 _ _ _ _ step.0.1.0 step.1.1.0 same),
+    )
+
+pub returns-in-None : goal.returns-in-None
+returns-in-None c = agree c.loop-a.invariant.1 c.requires.0
 
 pub returns-then-not-same_bytes : goal.returns-then-not-same_bytes
-returns-then-not-same_bytes c = c.loop-i.invariant
-
-pub loop-i-preserved : goal.loop-i-preserved
-loop-i-preserved c =
-    let x = c.args in
-    let l = c.loop-i in
-    (omega arith, agree_further l.i (l.i + 8) x.first.now x.second.now l.invariant.1 (same-bytes-true _ _ (sym c.same_bytes.ensures ∙ c.if-not-same_bytes.false)))
-
-pub returns : goal.returns
-returns c = c.loop-i.invariant
+returns-then-not-same_bytes c = agree c.loop-a.invariant.1 c.requires.0

@@ -3,9 +3,6 @@ use mathlib.Core.Path.{sym, ◌∙◌}
 use Rattle.ticket.specs.Packing.{packed_or_zeros}
 use Rattle.ticket.proofs.packed.Goals as goal
 
-pub packed_ticket-requires : goal.packed_ticket-requires
-packed_ticket-requires c = sym c.valid.ensures ∙ c.if-valid.true
-
 pub returns-then-valid : goal.returns-then-valid
 unfolding packed_or_zeros
 returns-then-valid c = rw (sym c.valid.ensures ∙ c.if-valid.true, c.packed_ticket.ensures)

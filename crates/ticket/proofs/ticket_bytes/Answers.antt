@@ -1,21 +1,19 @@
 -- `ticket_bytes`: the bytes of the two words are those of their number.
-use Prim.Native.Nat.{ℕ, ◌*◌, ◌%◌, ◌^◌, ◌<◌}
-use mathlib.Core.Path.{◌≡◌, refl, sym, ap, ap₂, ◌∙◌}
+use Prim.Native.Nat.{ℕ}
+use mathlib.Core.Path.{sym, ap, ap₂, ◌∙◌}
 use mathlib.Core.List.{List, [], ◌∷◌, ◌++◌}
-use native.Mathlib.Omega.{arith}
-use lib.ListN.{take}
-use Rattle.tape_model.specs.Format.{cut, byte_widths}
-use Rattle.tape_model.proofs.Widths.{cut-append, cons}
-use Rattle.ticket.proofs.WordBytes.{turned-bytes}
+use lib.ListN.{take, drop}
+use borrow.Rule.Slice.PartMut.{put_mid}
+use Rattle.tape_model.specs.Format.{byte_widths}
+use Rattle.tape_model.proofs.Widths.{cut-append}
+use Rattle.ticket.proofs.WordBytes.{be_bytes}
 use Rattle.ticket.proofs.ticket_bytes.Goals as goal
-
--- 40 bits at the top of a word
-top : (x : ℕ) → x < 2 ^ 40 → (take 4 (cut (byte_widths 8) (x * 2 ^ 24)) ++ (x % 256 ∷ [])) ≡ cut (byte_widths 5) x
-top x h = cons (omega arith) (cons (omega arith) (cons (omega arith) (cons (omega arith) (cons (omega arith) refl))))
 
 pub returns : goal.returns
 returns c =
     let high = c.args.w.high in
     let low = c.args.w.low in
-    ap₂ ◌++◌ (turned-bytes high _ c.turned-h.ensures) (ap (λ (bytes : List ℕ). take 4 bytes ++ (low % 256 ∷ [])) (turned-bytes (low * 2 ^ 24) _ c.turned-l.ensures) ∙ top low c.requires)
+    ap₂ (λ (front back : List ℕ). put_mid 8 5 (front ++ 0 ∷ 0 ∷ 0 ∷ 0 ∷ 0 ∷ []) back)
+    (c.copy_from_slice.ensures.after ∙ c.to_be_bytes.ensures ∙ be_bytes high)
+    (c.copy_from_slice-2.ensures.after ∙ ap (λ (l : List ℕ). take 5 (drop 3 l)) (c.to_be_bytes-2.ensures ∙ be_bytes low))
     ∙ sym (cut-append (byte_widths 8) (byte_widths 5) high low c.requires)

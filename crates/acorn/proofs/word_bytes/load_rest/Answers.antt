@@ -1,20 +1,21 @@
 -- `acorn::word_bytes::load_rest` meets its contract.
+use mathlib.Core.Path.{refl}
+use Prim.Native.Nat.{◌+◌}
 use native.Mathlib.Omega.{arith}
-use Rattle.acorn.proofs.Strings.{one_byte, two_bytes, three-bytes}
+use Rattle.acorn.proofs.Strings.{loaded}
 use Rattle.acorn.proofs.word_bytes.load_rest.Goals as goal
 
-pub returns-then-k-lt2 : goal.returns-then-k-lt2
-returns-then-k-lt2 c i h =
-    let a = c.args in
-    rw c.wide.ensures (one_byte a.src.now a.at (λ p. omega (arith, c.shared_slice_known-then-k-lt2-1.given p)) i (omega arith))
+pub returns-in-1 : goal.returns-in-1
+returns-in-1 c =
+    loaded c.args.src.now c.args.at (λ p. omega (arith, c.type_inv.src p)) 0 0 0 (omega arith) (omega arith) (omega arith) c.args.k _ c.from_le_bytes.ensures
+    (λ h. absurd (omega arith)) (λ h. absurd (omega arith)) (λ h. absurd (omega arith)) (omega arith)
 
-pub returns-then-k-lt3 : goal.returns-then-k-lt3
-returns-then-k-lt3 c i h =
-    let a = c.args in
-    rw (c.wide-then-k-lt3-2.ensures, c.wide-then-k-lt3.ensures) (two_bytes a.src.now a.at (λ p. omega (arith, c.shared_slice_known-then-k-lt3-2-1.given p)) i (omega arith))
+pub returns-in-2 : goal.returns-in-2
+returns-in-2 c =
+    loaded c.args.src.now c.args.at (λ p. omega (arith, c.type_inv.src p)) _ 0 0 (omega (arith, c.type_inv.src (c.args.at + 1))) (omega arith) (omega arith) c.args.k _ c.from_le_bytes-in-2.ensures
+    (λ h. refl) (λ h. absurd (omega arith)) (λ h. absurd (omega arith)) (omega arith)
 
-pub returns : goal.returns
-returns c i h =
-    let a = c.args in
-    rw (c.wide-4.ensures, c.wide-3.ensures, c.wide-2.ensures)
-    (three-bytes a.src.now a.at (λ p. omega (arith, c.shared_slice_known-4-1.given p)) i (omega arith))
+pub returns-in_default : goal.returns-in_default
+returns-in_default c =
+    loaded c.args.src.now c.args.at (λ p. omega (arith, c.type_inv.src p)) _ _ 0 (omega (arith, c.type_inv.src (c.args.at + 1))) (omega (arith, c.type_inv.src (c.args.at + 2))) (omega arith) c.args.k _ c.from_le_bytes-in_default.ensures
+    (λ h. refl) (λ h. refl) (λ h. absurd (omega arith)) (omega arith)

@@ -1,35 +1,23 @@
 -- `acorn::word_bytes::store_rest` meets its contract.
-use mathlib.Core.Path.{◌≡◌, ap, ◌∙◌}
+use mathlib.Core.Path.{ap, ◌∙◌}
+use mathlib.Core.List.{List, [], ◌∷◌}
+use Prim.Native.Nat.{ℕ}
 use native.Mathlib.Omega.{arith}
-use lib.ListN.{length-set}
-use lib.Seq.{paste}
-use Rattle.acorn_model.specs.Bits.{bit, bytes}
-use Rattle.acorn.proofs.Strings.{stored1, stored2, stored3}
+use lib.ListN.{get_or}
+use Rattle.acorn.proofs.Strings.{le_bytes-is, stored_one, stored_two, stored_three}
 use Rattle.acorn.proofs.word_bytes.store_rest.Goals as goal
 
-pub returns-then-k-eq1 : goal.returns-then-k-eq1
-returns-then-k-eq1 c =
-    let a = c.args in
-    let e : 1 ≡ a.k = omega arith in
-    stored1 a.dst.now a.at a.x c.byte_of.result c.byte_of.ensures (omega arith) ∙ ap (paste a.dst.now a.at (bytes 4 (bit a.x))) e
+pub returns-in-1 : goal.returns-in-1
+returns-in-1 c =
+    let e = c.to_le_bytes.ensures ∙ le_bytes-is c.args.x in
+    stored_one _ _ _ _ _ (ap (λ (l : List ℕ). get_or l 0 0) e) (omega arith) c.in-1.is
 
-pub bounds-dst-at-2 : goal.bounds-dst-at-2
-bounds-dst-at-2 c = simp length-set (omega arith)
+pub returns-in-2 : goal.returns-in-2
+returns-in-2 c =
+    let e = c.to_le_bytes.ensures ∙ le_bytes-is c.args.x in
+    stored_two _ _ _ _ _ (c.copy_from_slice.ensures.after ∙ ap (λ (l : List ℕ). get_or l 0 0 ∷ get_or l 1 0 ∷ []) e) c.in-2.is
 
-pub returns-then-k-eq2 : goal.returns-then-k-eq2
-returns-then-k-eq2 c =
-    let a = c.args in
-    let e : 2 ≡ a.k = omega arith in
-    stored2 a.dst.now a.at a.x c.byte_of.result c.byte_of.ensures c.byte_of-2.result c.byte_of-2.ensures (omega arith)
-    ∙ ap (paste a.dst.now a.at (bytes 4 (bit a.x))) e
-
-pub bounds-dst-at-3 : goal.bounds-dst-at-3
-bounds-dst-at-3 c = simp length-set (omega arith)
-
-pub returns : goal.returns
-returns c =
-    let a = c.args in
-    let e : 3 ≡ a.k = omega arith in
-    stored3 a.dst.now a.at a.x c.byte_of.result c.byte_of.ensures c.byte_of-2.result c.byte_of-2.ensures
-    c.byte_of-3.result c.byte_of-3.ensures (omega arith)
-    ∙ ap (paste a.dst.now a.at (bytes 4 (bit a.x))) e
+pub returns-in_default : goal.returns-in_default
+returns-in_default c =
+    let e = c.to_le_bytes.ensures ∙ le_bytes-is c.args.x in
+    stored_three _ _ _ _ _ (c.copy_from_slice-in_default.ensures.after ∙ ap (λ (l : List ℕ). get_or l 0 0 ∷ get_or l 1 0 ∷ get_or l 2 0 ∷ []) e) (omega arith)

@@ -6,7 +6,7 @@ use Rattle.session.proofs.Session.words.Goals as goal
 
 pub returns : goal.returns
 returns c =
-    words_are _ _ _ c.number.ensures (unfold machine_of in c.fixed_length-n.ensures)
+    words_are _ _ _ c.number.ensures (unfold machine_of in c.fixed_length.ensures)
     (omega (arith, c.struct_known-2-1.given))
     (omega (arith, c.struct_known-4-1.given))
     (omega (arith, c.struct_known-6-1.given))

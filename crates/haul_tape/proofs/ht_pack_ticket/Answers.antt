@@ -1,7 +1,0 @@
--- `ht_pack_ticket` meets its contract.
-use Rattle.haul_tape.proofs.Seeing.{result-seen}
-use Rattle.c_answers.specs.Answers.{written_numbers}
-use Rattle.haul_tape.proofs.ht_pack_ticket.Goals as goal
-
-pub returns : goal.returns
-returns c = result-seen written_numbers _ _ _ _ c.pack_ticket.ensures c.written.ensures

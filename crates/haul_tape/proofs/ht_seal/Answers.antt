@@ -1,7 +1,0 @@
--- `ht_seal` meets its contract.
-use Rattle.haul_tape.proofs.Seeing.{result-seen}
-use Rattle.c_answers.specs.Answers.{written_numbers}
-use Rattle.haul_tape.proofs.ht_seal.Goals as goal
-
-pub returns : goal.returns
-returns c = result-seen written_numbers _ _ _ _ c.seal.ensures c.written.ensures

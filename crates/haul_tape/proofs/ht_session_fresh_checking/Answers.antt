@@ -1,7 +1,0 @@
--- `ht_session_fresh_checking` meets its contract.
-use mathlib.Core.Path.{ap, ◌∙◌}
-use Rattle.session.specs.Words.{words_for}
-use Rattle.haul_tape.proofs.ht_session_fresh_checking.Goals as goal
-
-pub returns : goal.returns
-returns c = c.words.ensures ∙ ap words_for c.fresh.ensures

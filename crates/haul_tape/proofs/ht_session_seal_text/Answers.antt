@@ -1,6 +1,0 @@
--- `ht_session_seal_text` meets its contract.
-use Rattle.haul_tape.proofs.Seeing.{session_seen}
-use Rattle.haul_tape.proofs.ht_session_seal_text.Goals as goal
-
-pub returns : goal.returns
-returns c = session_seen _ _ _ _ _ _ _ c.from_words.ensures c.seal_text-reply.ensures c.session_handed_back.ensures.s_after c.session_handed_back.ensures.value

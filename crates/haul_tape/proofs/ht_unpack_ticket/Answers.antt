@@ -1,7 +1,0 @@
--- `ht_unpack_ticket` meets its contract.
-use mathlib.Core.Path.{ap, ◌∙◌}
-use Rattle.c_answers.specs.Answers.{ticket_numbers}
-use Rattle.haul_tape.proofs.ht_unpack_ticket.Goals as goal
-
-pub returns : goal.returns
-returns c = c.unpacked_ticket.ensures ∙ ap ticket_numbers c.unpack_ticket.ensures

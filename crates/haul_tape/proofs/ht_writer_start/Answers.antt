@@ -1,6 +1,0 @@
--- `ht_writer_start` meets its contract.
-use Rattle.haul_tape.proofs.Seeing.{writer_seen}
-use Rattle.haul_tape.proofs.ht_writer_start.Goals as goal
-
-pub returns : goal.returns
-returns c = writer_seen _ _ _ _ _ _ _ c.from_words.ensures c.start-reply.ensures c.writer_handed_back.ensures.w_after c.writer_handed_back.ensures.value

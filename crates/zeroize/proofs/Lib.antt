@@ -1,2 +1,0 @@
--- The laws that the proofs of the functions cite.
-pub mod Halves
