@@ -62,7 +62,8 @@ fn text_rest<const OPENING: bool>(
 }
 
 // Plain text is encrypted into out, where out has room for it; else nothing is done.
-// A loop of its own, by `while`: one function for both ways, by `for` or by `while`, takes 6 % more instructions in sealing and 8 to 10 % in opening.
+// (A loop of its own: one function for both ways, by `for` or by `while`, takes 101 instructions for four bytes in sealing and 105 to 107 in opening, and the
+// two loops 98 and 97.)
 pub fn seal_text(s: State, piece: &[u8], out: &mut [u8]) -> State
     ensures { TextRun false (state_of s) piece.now out.old (state_of result) out.new }
 {
@@ -103,7 +104,7 @@ pub fn seal_13(s: State, piece: &[u8], out: &mut [u8]) -> State
     text_rest::<false>(s3, piece, 12, 1, out)
 }
 
-// Ciphertext is decrypted into out, where out has room for it; else nothing is done. The text's bits enter the state.
+// Ciphertext is decrypted into out, where out has room for it; else nothing is done. The text's bits enter the state. (A loop of its own: see `seal_text`.)
 pub fn decrypt(s: State, piece: &[u8], out: &mut [u8]) -> State
     ensures { TextRun true (state_of s) piece.now out.old (state_of result) out.new }
 {

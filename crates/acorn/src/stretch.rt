@@ -62,7 +62,7 @@ pub fn controls_at(step: u64) -> Controls
     }
 }
 
-// The message bits of an end from its step n on: 1, then zeros.
+// The message bits of an end from its step n on: 1, then zeros. (By an `if`: `u32::from(n == 0)` is no plainer, and each branch is a case of the proof.)
 pub(crate) fn leading_one(n: u64) -> u32
     ensures { (i : ℕ) → bit result i ≡ eqb (n + i) 0 }
 {

@@ -15,7 +15,7 @@ use compare::same_bytes;
 pub fn tag_length_right(n: usize) -> bool
     ensures { result ≡ tag_length_right n }
 {
-    (LEAST_TAG_LENGTH <= n) & (n <= TAG_BYTES)
+    (LEAST_TAG_LENGTH..=TAG_BYTES).contains(&n)
 }
 
 // The last n bytes of the tag are written to out, of the state before final, where the tag has as many and out has room for them; else nothing is

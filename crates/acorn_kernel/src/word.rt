@@ -4,7 +4,7 @@ ghost use Rattle.acorn_model.specs.Bits.{◌⊕◌, bit};
 ghost use Rattle.acorn_model.specs.Step.{maj, ch};
 ghost use Rattle.acorn_kernel.specs.Together.{◌bits◌then◌};
 
-// The 32 low bits of w.
+// The 32 low bits of w. (The mask stays: `as` must lose nothing.)
 pub(crate) fn half(w: u64) -> u32
     ensures { (j : ℕ) → j < 32 → bit result j ≡ bit w j }
 {

@@ -13,7 +13,8 @@ fn fill(text: &mut [u8]) {
     }
 }
 
-// A session with the nonce as its key, too. Its tag becomes the nonce, so that each session needs the one before it.
+// A session with the nonce as its key, too. Its tag becomes the nonce, so that each session needs the one before it. (0 where the arguments do
+// not fit, and no Option: the benchmark prints the number.)
 fn sealed(nonce: &mut [u8], text: &[u8], each: usize, out: &mut [u8]) -> u64 {
     if each == 0 || 65536 < text.len() || out.len() < text.len() {
         return 0;

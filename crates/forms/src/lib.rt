@@ -11,7 +11,7 @@ use tape_model::Ticket;
 fn is_form(form: u8) -> bool
     ensures { result ≡ is_form form }
 {
-    (form == 1) | (form == 2)
+    matches!(form, 1 | 2)
 }
 
 // Whether a form 2 ticket, asked for in form 1, is tipped after form 1's last second.

@@ -6,8 +6,8 @@ ghost use Rattle.listing.specs.Clauses.{HoldTickets, lines_of, text_of};
 use super::lines::{Opened, head_numbers, listed_numbers, total_numbers};
 use tape_model::TICKET_LENGTH;
 
-// How many digits a number has. (By a loop that divides: the library's `checked_ilog10` reads a table at a place that follows from the number, which no call
-// may do with a listed one, tests/stack_and_secrets.)
+// How many digits a number has. (By a loop that divides: the library's `checked_ilog10` reads a table at a place that follows from the number, which a
+// listing may not do, tests/stack_and_secrets.)
 pub(crate) fn decimal_length(n: u64) -> usize
     ensures value { result ≡ length (model.decimal n) }
     ensures upper_bound { result ≤ 20 }

@@ -212,7 +212,7 @@ pub fn open(
 
 // Decrypts the text of bytes sealed with a tag of 16 into a buffer of the caller's that nobody else reads, and says whether their tag matches; where it does not, the
 // buffer is all zeros. False, and nothing is written, where key or nonce is not of 16 bytes, there are fewer sealed bytes than 16, or the buffer
-// has no room for the text.
+// has no room for the text. (A bool, and no Result: false says only that there is no text; the caller names the refusal.)
 pub fn decrypt_into(key: &[u8], nonce: &[u8], data: &[u8], sealed: &[u8], buffer: &mut [u8]) -> bool
     ensures { DecryptsInto key.now nonce.now «data».now sealed.now buffer.old result buffer.new }
 {

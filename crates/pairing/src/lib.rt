@@ -98,7 +98,8 @@ impl<'a> Tickets<'a> {
         }
     }
 
-    // From a place of this truck on, the first of its tickets that is not tipped too early. (By `while`: it goes from link to link, and counts nothing.)
+    // From a place of this truck on, the first of its tickets that is not tipped too early. (By `while`: it goes from link to link, and
+    // counts nothing. The place behind the last where there is none, and no Option: it goes into `cursors` like any other.)
     fn seek(self, next: &[u16; 5000], start: usize, tipped: u32) -> usize
         requires { Linked (tickets_of self.plain.now) 0 next.now × (start ≤ length (tickets_of self.plain.now)) }
         ensures { Seeks (tickets_of self.entry.plain.now) start tipped result }

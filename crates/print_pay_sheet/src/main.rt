@@ -23,7 +23,7 @@ use tape_opening::open_scratch;
 // The most digits of a rate.
 const MOST_DIGITS: usize = 19;
 
-// The plain bytes of the most tickets.
+// The plain bytes of the most tickets. (As in listing, whose constant is private.)
 const LONGEST_PLAIN: usize = TICKET_LENGTH * TICKET_LIMIT;
 
 // Room for every text.
@@ -54,7 +54,7 @@ fn line_ends(input: &[u8], at: usize) -> bool
     }
 }
 
-// Whether an input that begins with so many digits begins with a rate and the end of a line.
+// Whether an input that begins with so many digits begins with a rate and the end of a line. (By comparisons: with the range's `contains` the goal stays open.)
 fn has_rate(input: &[u8], digits: usize) -> bool
     requires { digits ≡ digit_count input.now }
     ensures { result ≡ has_rate input.now }

@@ -10,7 +10,8 @@ use calls::Refusal;
 use tape_model::{TICKET_LENGTH, Ticket};
 use ticket::is_tickets_length;
 
-// What stands at a position, and the position after it. A position is the number of tickets before it: 0 before the first.
+// What stands at a position, and the position after it. A position is the number of tickets before it: 0 before the first. (Answer and position side by
+// side: the position stays on a refusal, as the clause `read_outcome` says.)
 #[derive(Clone, Copy)]
 pub struct ReadAt {
     pub position: usize,
@@ -56,7 +57,7 @@ pub struct Reader<'a> {
     position: usize,
 }
 
-// What a call answered, and the reader after it.
+// What a call answered, and the reader after it. (Document 01 names the form: a call hands back the reader after it.)
 #[derive(Clone, Copy)]
 pub struct ReaderReply<'a> {
     pub reader: Reader<'a>,

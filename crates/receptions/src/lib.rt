@@ -56,7 +56,8 @@ pub fn parting(first: &[u8], second: &[u8]) -> Result<(), PartedAt>
     })
 }
 
-// All of the longer reception where they do not part, and of the first where they are equally long; no bytes of the first where they part.
+// All of the longer reception where they do not part, and of the first where they are equally long; no bytes of the first where they part. (No Option:
+// document 02 names the form, a part of one of two lent slices.)
 pub fn longer<'a>(first: &'a [u8], second: &'a [u8]) -> &'a [u8]
     ensures { IsPart (receptions.longer first.now second.now) first.entry second.entry result }
 {

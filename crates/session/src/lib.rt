@@ -39,7 +39,8 @@ pub struct Reply {
     pub session: Session,
 }
 
-// Whether a piece goes over the limit after the bytes that are taken. (By two comparisons: with `saturating_add` a piece of 13 bytes takes four instructions more.)
+// Whether a piece goes over the limit after the bytes that are taken. (By two comparisons: with `saturating_add`
+// a piece of 13 bytes takes four instructions more.)
 fn over_limit(taken: u64, piece: &[u8]) -> bool
     ensures { result ≡ nat_lt machine.byte_limit (taken + length piece.now) }
 {

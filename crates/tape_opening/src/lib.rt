@@ -12,7 +12,8 @@ use sized::open_long;
 use tape_model::Totals;
 
 // Opens a tape: writes the plain bytes of its tickets, once the tag is known to match and every ticket has unpacked, and answers their
-// number and total net. The text is decrypted into a scratch on the stack, which is cleared where the tape is sent back.
+// number and total net. The text is decrypted into a scratch on the stack, which is cleared where the tape is sent back; of fixed size, since the project
+// allows no heap.
 pub fn open_tape(key: &[u8], tape: &[u8], out: &mut [u8]) -> Result<Totals, Refusal>
     ensures { OpensTape key.now tape.now out.old result out.new }
 {

@@ -65,8 +65,8 @@ impl TruckSet {
         n
     }
 
-    // Two sets combined, word by word. (In a frame of its own: with the words of both sets in one frame, the call for C on two tapes takes more of the
-    // stack than the header says.)
+    // Two sets combined, word by word, the other's by its place: with a `zip` of both the proof did not close. (In a frame of its own: with the words of both
+    // sets in one frame, the call for C on two tapes takes more of the stack than the header says.)
     #[inline(never)]
     fn combined<F: Fn(u64, u64) -> u64>(self, other: TruckSet, f: F) -> TruckSet
         requires { F.IsAlwaysCallable f }
