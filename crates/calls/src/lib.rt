@@ -1,7 +1,7 @@
 // Why a call is sent back, and the answers of calls that run steps: code and specification share them.
 #![tactic(auto)]
 
-ghost use Rattle.std.specs.Prelude.{◌≡◌};
+ghost use Rattle.std.specs.Prelude.{◌≡◌, Some, decimal};
 ghost use Rattle.calls.specs.Refusals.{refusal_number};
 
 use std::error::Error;
@@ -41,8 +41,10 @@ impl From<Refusal> for u8 {
     }
 }
 
-// The number.
+// Printed as its number.
 impl fmt::Display for Refusal {
+    ghost output = { λ refusal. Some (decimal (refusal_number refusal)) };
+
     fn fmt<W: fmt::Write>(&self, f: &mut fmt::Formatter<W>) -> fmt::Result {
         write!(f, "{}", u8::from(*self))
     }
