@@ -1,14 +1,17 @@
 // Strings to run the cases on.
 
-// Byte i of the strings that fill makes; those of two masks differ at every place.
+// The strings that fill makes begin again after so many bytes.
+const PERIOD: u8 = 251;
+
+// Byte i of such a string; those of two masks differ at every place.
 fn byte_at(i: usize, mask: u8) -> u8 {
-    ((i % 251) as u8) ^ mask
+    ((i % usize::from(PERIOD)) as u8) ^ mask
 }
 
-// (By parts of 251 bytes: with `byte_at` of every place the compiler divides for each byte by itself.)
+// (Period by period: with `byte_at` of every place the compiler divides for each byte by itself.)
 pub(crate) fn fill(s: &mut [u8], mask: u8) {
-    for part in s.chunks_mut(251) {
-        for (byte, n) in part.iter_mut().zip(0..251) {
+    for part in s.chunks_mut(usize::from(PERIOD)) {
+        for (byte, n) in part.iter_mut().zip(0..PERIOD) {
             *byte = n ^ mask;
         }
     }
